@@ -1,0 +1,12 @@
+-- `house::ballot_of` meets its contract.
+use Rattle.house.specs.Pairs.{ballotOf}
+use mathlib.Core.Path.{refl}
+use Rattle.house.proofs.ballot_of.Statement.{statement}
+use Rattle.house.proofs.ballot_of.Tie as tie
+
+returns : tie.Need-returns
+unfolding ballotOf
+returns c = refl
+
+pub ballot-of-spec : {M : Type 1} → statement M
+ballot-of-spec = tie.close (tie.spec returns)

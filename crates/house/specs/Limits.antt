@@ -1,0 +1,30 @@
+-- Every limit of document 01 under one name. The code's constants of the same names stand in src/lib.rt.
+use Prim.Native.Nat.{ℕ}
+
+-- districts G: 1 to 4
+abbrev pub mostDistricts : ℕ
+mostDistricts = 4
+
+-- jobs J: 1 to 64
+abbrev pub mostJobs : ℕ
+mostJobs = 64
+
+-- clock and stamp time: at most 1,000,000
+abbrev pub mostTime : ℕ
+mostTime = 1000000
+
+-- ballot number: at most 65,535
+abbrev pub mostNumber : ℕ
+mostNumber = 65535
+
+-- a tray has at least 4,096 bytes
+abbrev pub leastTray : ℕ
+leastTray = 4096
+
+-- of a post at most 65,536 bytes are used
+abbrev pub mostPost : ℕ
+mostPost = 65536
+
+-- the job byte of a record whose kind has no job
+abbrev pub noJob : ℕ
+noJob = 255

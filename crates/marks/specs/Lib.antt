@@ -1,0 +1,3 @@
+-- Marks of boxes, and quorums of them.
+pub mod Marks
+pub mod Quorums

@@ -1,0 +1,18 @@
+-- `plans::stamp_named` meets its contract.
+use Rattle.plans.specs.Plan.{stampNamed}
+use borrow.Author.Needs.{needs}
+use Rattle.plans.proofs.stamp_named.Statement.{statement}
+use Rattle.plans.proofs.stamp_named.Tie as tie
+
+stamp-of-requires : tie.Need-stamp-of-requires
+stamp-of-requires c κs = search needs
+
+named-requires : tie.Need-named-requires
+named-requires c κs = search needs
+
+returns : tie.Need-returns
+unfolding stampNamed
+returns c = rw (c .before .stamp-of .ensures, c .named .ensures)
+
+pub stamp-named-spec : {M : Type 1} → statement M
+stamp-named-spec = tie.close (tie.spec stamp-of-requires named-requires returns)
