@@ -3,11 +3,11 @@ use Prim.Native.Nat.{ℕ, _+_, _*_, _<_, _≤_}
 use mathlib.Core.Bool.{Bool, true, false, _&&_}
 use mathlib.Core.Path.{_≡_, refl, sym, ap, _∙_}
 use lib.Dec.{leb, eqb}
-use borrow.Author.Tests.{leb-true, eqb-true}
-use Rattle.laws.specs.Choice.{and-left, and-right}
+use borrow.Author.Tests.{leb-true, eqb-true, le-leb, eq-eqb}
+use Rattle.laws.specs.Choice.{and-left, and-right, and-both}
 use Rattle.laws.specs.Lex.{Order, lexOrder, lex-rank, lex-rank-not, rank-lex, rank-inj}
 use Rattle.house.specs.Limits.{mostTime, mostNumber}
-use Rattle.house.specs.Pairs.{district, boxNo, noStamp, noBallot, stampLt, ballotLt, sameStamp, sameBallot, isNoStamp, isNoBallot, timeFits, stampOf, ballotOf}
+use Rattle.house.specs.Pairs.{district, boxNo, noStamp, noBallot, stampLt, ballotLt, sameStamp, sameBallot, isNoStamp, isNoBallot, timeFits, realStamp, realBallot, stampOf, ballotOf}
 use Rattle.house.specs.declared.Stamp.{Stamp}
 use Rattle.house.specs.declared.District.{District}
 use Rattle.house.specs.declared.Ballot.{Ballot}
@@ -74,34 +74,52 @@ pub no-ballot-says : (b : Ballot) → isNoBallot b ≡ true → b ≡ noBallot
 unfolding isNoBallot
 no-ballot-says b h = ballotOrder .eq-says b noBallot h
 
-pub record RealStamp (d : District) (s : Stamp) : Type 0 where
-  pub real : 1 ≤ s .time
+pub record RealStamp (s : Stamp) : Type 0 where
+  pub some-time : 1 ≤ s .time
   pub fits : s .time ≤ mostTime
-  pub here : s .district ≡ d
 
-pub stamp-of-says : (d : District) (s : Stamp) → stampOf d s ≡ true → RealStamp d s
-unfolding stampOf timeFits
-stamp-of-says d s h =
-    let t = and-left (leb 1 (s .time) && leb (s .time) mostTime) (eqb (s .district .0) (d .0)) h in
-    let e = eqb-true (s .district .0) (d .0) (and-right (leb 1 (s .time) && leb (s .time) mostTime) (eqb (s .district .0) (d .0)) h) in
+pub real-stamp-says : (s : Stamp) → realStamp s ≡ true → RealStamp s
+unfolding realStamp timeFits
+real-stamp-says s h =
     record {
-      real = leb-true 1 (s .time) (and-left (leb 1 (s .time)) (leb (s .time) mostTime) t);
-      fits = leb-true (s .time) mostTime (and-right (leb 1 (s .time)) (leb (s .time) mostTime) t);
-      here = ap district e;
+      some-time = leb-true 1 (s .time) (and-left (leb 1 (s .time)) (leb (s .time) mostTime) h);
+      fits = leb-true (s .time) mostTime (and-right (leb 1 (s .time)) (leb (s .time) mostTime) h);
     }
 
-pub record RealBallot (p : BoxNo) (b : Ballot) : Type 0 where
-  pub real : 1 ≤ b .number
-  pub fits : b .number ≤ mostNumber
-  pub here : b .owner ≡ p
+pub real-stamp-is : (s : Stamp) → RealStamp s → realStamp s ≡ true
+unfolding realStamp timeFits
+real-stamp-is s R = and-both (leb 1 (s .time)) (leb (s .time) mostTime) (le-leb 1 (s .time) (R .some-time)) (le-leb (s .time) mostTime (R .fits))
 
-pub ballot-of-says : (p : BoxNo) (b : Ballot) → ballotOf p b ≡ true → RealBallot p b
+pub stamp-of-says : (d : District) (s : Stamp) → stampOf d s ≡ true → RealStamp s × (s .district ≡ d)
+unfolding stampOf
+stamp-of-says d s h =
+    (real-stamp-says s (and-left (realStamp s) (eqb (s .district .0) (d .0)) h), ap district (eqb-true (s .district .0) (d .0) (and-right (realStamp s) (eqb (s .district .0) (d .0)) h)))
+
+pub stamp-of-is : (d : District) (s : Stamp) → RealStamp s → s .district .0 ≡ d .0 → stampOf d s ≡ true
+unfolding stampOf
+stamp-of-is d s R e = and-both (realStamp s) (eqb (s .district .0) (d .0)) (real-stamp-is s R) (eq-eqb (s .district .0) (d .0) e)
+
+pub record RealBallot (b : Ballot) : Type 0 where
+  pub some-number : 1 ≤ b .number
+  pub fits : b .number ≤ mostNumber
+
+pub real-ballot-says : (b : Ballot) → realBallot b ≡ true → RealBallot b
+unfolding realBallot
+real-ballot-says b h =
+    record {
+      some-number = leb-true 1 (b .number) (and-left (leb 1 (b .number)) (leb (b .number) mostNumber) h);
+      fits = leb-true (b .number) mostNumber (and-right (leb 1 (b .number)) (leb (b .number) mostNumber) h);
+    }
+
+pub real-ballot-is : (b : Ballot) → RealBallot b → realBallot b ≡ true
+unfolding realBallot
+real-ballot-is b R = and-both (leb 1 (b .number)) (leb (b .number) mostNumber) (le-leb 1 (b .number) (R .some-number)) (le-leb (b .number) mostNumber (R .fits))
+
+pub ballot-of-says : (p : BoxNo) (b : Ballot) → ballotOf p b ≡ true → RealBallot b × (b .owner ≡ p)
 unfolding ballotOf
 ballot-of-says p b h =
-    let t = and-left (leb 1 (b .number) && leb (b .number) mostNumber) (eqb (b .owner .0) (p .0)) h in
-    let e = eqb-true (b .owner .0) (p .0) (and-right (leb 1 (b .number) && leb (b .number) mostNumber) (eqb (b .owner .0) (p .0)) h) in
-    record {
-      real = leb-true 1 (b .number) (and-left (leb 1 (b .number)) (leb (b .number) mostNumber) t);
-      fits = leb-true (b .number) mostNumber (and-right (leb 1 (b .number)) (leb (b .number) mostNumber) t);
-      here = ap boxNo e;
-    }
+    (real-ballot-says b (and-left (realBallot b) (eqb (b .owner .0) (p .0)) h), ap boxNo (eqb-true (b .owner .0) (p .0) (and-right (realBallot b) (eqb (b .owner .0) (p .0)) h)))
+
+pub ballot-of-is : (p : BoxNo) (b : Ballot) → RealBallot b → b .owner .0 ≡ p .0 → ballotOf p b ≡ true
+unfolding ballotOf
+ballot-of-is p b R e = and-both (realBallot b) (eqb (b .owner .0) (p .0)) (real-ballot-is b R) (eq-eqb (b .owner .0) (p .0) e)

@@ -69,10 +69,17 @@ isNoBallot b = sameBallot b noBallot
 unfoldable pub timeFits : ℕ → Bool
 timeFits t = leb t mostTime
 
--- a real stamp of district d: its time is 1 to 1,000,000
-unfoldable pub stampOf : District → Stamp → Bool
-stampOf d s = (leb 1 (s .time) && timeFits (s .time)) && eqb (s .district .0) (d .0)
+-- a real stamp has a time of 1 to 1,000,000, a real ballot a number of 1 to 65,535
+unfoldable pub realStamp : Stamp → Bool
+realStamp s = leb 1 (s .time) && timeFits (s .time)
 
--- a real ballot of box p: its number is 1 to 65,535
+unfoldable pub realBallot : Ballot → Bool
+realBallot b = leb 1 (b .number) && leb (b .number) mostNumber
+
+-- a real stamp of district d
+unfoldable pub stampOf : District → Stamp → Bool
+stampOf d s = realStamp s && eqb (s .district .0) (d .0)
+
+-- a real ballot of box p
 unfoldable pub ballotOf : BoxNo → Ballot → Bool
-ballotOf p b = (leb 1 (b .number) && leb (b .number) mostNumber) && eqb (b .owner .0) (p .0)
+ballotOf p b = realBallot b && eqb (b .owner .0) (p .0)

@@ -1,6 +1,6 @@
 // The house's types and the order of stamps and ballots. What each function means stands in specs/Pairs.antt.
 ghost use mathlib.Core.Path.{_≡_};
-ghost use Rattle.house.specs.Pairs.{noStamp, noBallot, noRow, stampLt, ballotLt, sameStamp, sameBallot, laterStamp, isNoStamp, isNoBallot, timeFits, stampOf, ballotOf};
+ghost use Rattle.house.specs.Pairs.{noStamp, noBallot, noRow, stampLt, ballotLt, sameStamp, sameBallot, laterStamp, isNoStamp, isNoBallot, timeFits, realStamp, realBallot, stampOf, ballotOf};
 
 pub const MOST_DISTRICTS: u8 = 4;
 
@@ -115,6 +115,18 @@ pub fn time_fits(t: u32) -> bool
     ensures { λ r. ⌜ r ≡ timeFits t ⌝ }
 {
     t <= MOST_TIME
+}
+
+pub fn real_stamp(s: Stamp) -> bool
+    ensures { λ r. ⌜ r ≡ realStamp s ⌝ }
+{
+    (1 <= s.time) & (s.time <= MOST_TIME)
+}
+
+pub fn real_ballot(b: Ballot) -> bool
+    ensures { λ r. ⌜ r ≡ realBallot b ⌝ }
+{
+    (1 <= b.number) & (b.number <= MOST_NUMBER)
 }
 
 // a real stamp of this district

@@ -1,8 +1,9 @@
 -- Bytes written onto the front of a tray, and behind the last; the rest of the tray stays.
 use Prim.Native.Nat.{ℕ, zero, suc, _+_, _-_, _*_, _<_, _≤_}
 use mathlib.Core.List.{List, [], _∷_, _++_, append-assoc, append-nil}
+use mathlib.Core.Logic.{_⊎_, inl, inr}
 use mathlib.Core.Path.{_≡_, refl, sym, _∙_, ap}
-use native.Mathlib.Nat.{zero-add, suc-mul}
+use native.Mathlib.Nat.{zero-add, suc-mul, eq-or-lt-of-le}
 use native.Mathlib.Omega.{arith}
 use lib.ListN.{length, take, drop, length-append, length-drop, drop-of-length-le}
 use lib.Seq.{take-all, take-length, sets, sets-eq, take-append-seam, drop-append-seam, drop-drop, take-at}
@@ -66,6 +67,16 @@ for-step f n = upto-step (λ (bs : List ℕ) (i : ℕ). bs ++ f i) [] n
 pub for-none : (f : ℕ → List ℕ) → allFor f 0 ≡ []
 unfolding allFor
 for-none f = refl
+
+-- what is written before place i, and there, fits into the whole
+pub for-room : (f : ℕ → List ℕ) (n i : ℕ) → i < n → length (allFor f i) + length (f i) ≤ length (allFor f n)
+unfolding allFor
+for-room f zero i h = absurd (omega arith)
+for-room f (suc n) i h = rw length-append (go (eq-or-lt-of-le {n = i} {m = n} (omega arith)) (λ l. for-room f n i l))
+  where
+    go : (i ≡ n) ⊎ (i < n) → (i < n → length (allFor f i) + length (f i) ≤ length (allFor f n)) → length (allFor f i) + length (f i) ≤ length (allFor f n) + length (f n)
+    go (inl e) r = rw e (omega arith)
+    go (inr l) r = let k = r l in omega arith
 
 -- n times a fixed length
 pub for-length : (f : ℕ → List ℕ) (m : ℕ) → ((k : ℕ) → length (f k) ≡ m) → (n : ℕ) → length (allFor f n) ≡ n * m

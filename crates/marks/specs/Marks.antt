@@ -1,5 +1,5 @@
 -- Marks: a set of boxes as one number, box p at digit p. A quorum is counted by the ones among a district's digits.
-use Prim.Native.Nat.{ℕ, _*_}
+use Prim.Native.Nat.{ℕ, _*_, _^_}
 use mathlib.Core.Bool.{Bool, not, _&&_, _||_}
 use lib.Count.{ones}
 use lib.Dec.{leb, ltb}
@@ -9,7 +9,7 @@ use Rattle.laws.specs.Digits.{digit, part, withDigit}
 use Rattle.house.specs.Pairs.{district}
 use Rattle.house.specs.declared.District.{District}
 use Rattle.house.specs.declared.BoxNo.{BoxNo}
-use Rattle.plans.specs.Plan.{sizeOf, quorumOf, names}
+use Rattle.plans.specs.Plan.{sizeOf, quorumOf, boxesOf, names}
 use Rattle.plans.specs.declared.Plan.{Plan}
 
 -- no box is marked
@@ -31,6 +31,10 @@ marked m p = pick (ltb (p .0) mostMarks) (withDigit m (p .0)) m
 -- the marks of district d alone
 unfoldable pub marksIn : Plan → ℕ → District → ℕ
 marksIn P m d = part m (d .0 * sizeOf P) (sizeOf P)
+
+-- no number beyond the plan's boxes is marked
+unfoldable pub onlyBoxes : Plan → ℕ → Bool
+onlyBoxes P m = ltb m (2 ^ boxesOf P)
 
 -- as many boxes of district d are marked as a quorum has
 unfoldable pub quorumIn : Plan → ℕ → District → Bool

@@ -1,7 +1,7 @@
 // Marks of boxes and quorums of them. What each function means stands in specs/Marks.antt.
 ghost use mathlib.Core.Path.{_≡_};
 ghost use Prim.Native.Nat.{ℕ, _≤_};
-ghost use Rattle.marks.specs.Marks.{noMarks, hasMark, marked, marksIn, quorumIn, quorumBelow, quorumEach};
+ghost use Rattle.marks.specs.Marks.{noMarks, hasMark, marked, marksIn, onlyBoxes, quorumIn, quorumBelow, quorumEach};
 use house::BoxNo;
 use house::District;
 use plans::Plan;
@@ -49,6 +49,17 @@ pub fn quorum_in(plan: Plan, marks: u32, d: District) -> bool
 {
     let here = marks_in(plan, marks, d);
     (plans::quorum_of(plan) as u32) <= u32::count_ones(here)
+}
+
+// no number beyond the plan's boxes is marked
+pub fn only_boxes(plan: Plan, marks: u32) -> bool
+    ensures { λ r. ⌜ r ≡ onlyBoxes plan marks ⌝ }
+{
+    let n = plans::boxes_of(plan);
+    if 32 <= n {
+        return true;
+    }
+    marks < (1u32 << n)
 }
 
 // a quorum in every district that the job names

@@ -8,7 +8,7 @@ use Rattle.laws.specs.Fold.{allBelow}
 use Rattle.laws.specs.Digits.{digit}
 use Rattle.laws.specs.Majority.{majority}
 use Rattle.house.specs.Limits.{mostDistricts, mostJobs}
-use Rattle.house.specs.Pairs.{district, boxNo, stampOf, isNoBallot}
+use Rattle.house.specs.Pairs.{district, boxNo, realStamp, realBallot, isNoBallot}
 use Rattle.house.specs.declared.District.{District}
 use Rattle.house.specs.declared.BoxNo.{BoxNo}
 use Rattle.house.specs.declared.Stamp.{Stamp}
@@ -59,14 +59,14 @@ names P j d = digit (maskOf P j) (d .0)
 
 -- a real ballot of a box of district d
 unfoldable pub ballotIn : Plan → District → Ballot → Bool
-ballotIn P d b = leb 1 (b .number) && (isBox P (b .owner) && eqb (homeOf P (b .owner) .0) (d .0))
+ballotIn P d b = realBallot b && (isBox P (b .owner) && eqb (homeOf P (b .owner) .0) (d .0))
 
 unfoldable pub noneOrIn : Plan → District → Ballot → Bool
 noneOrIn P d b = isNoBallot b || ballotIn P d b
 
 -- a real stamp of a district that job j names
 unfoldable pub stampNamed : Plan → ℕ → Stamp → Bool
-stampNamed P j s = stampOf (s .district) s && names P j (s .district)
+stampNamed P j s = realStamp s && names P j (s .district)
 
 -- a mask names districts 0 to G - 1, at least one: 1 to 2^G - 1
 unfoldable pub maskSound : ℕ → ℕ → Bool

@@ -8,13 +8,13 @@ use native.Mathlib.Omega.{arith}
 use lib.ListN.{getD}
 use lib.Dec.{leb, ltb, eqb}
 use lib.Pow.{pow-mono}
-use borrow.Author.Tests.{leb-true, ltb-true, eqb-true, lt-ltb, le-ltb, eq-eqb}
+use borrow.Author.Tests.{leb-true, ltb-true, ltb-false, eqb-true, lt-ltb, le-ltb, eq-eqb}
 use Rattle.laws.specs.Choice.{pick, pick-cases, pick-true, pick-false, look, never, and-left, and-right, and-both, or-cases}
 use Rattle.laws.specs.Fold.{allBelow, all-says}
 use Rattle.laws.specs.Digits.{digit, digit-zero, digit-beyond}
 use Rattle.house.specs.Limits.{mostDistricts, mostJobs, mostTime}
-use Rattle.house.specs.Pairs.{district, boxNo, noBallot, isNoBallot, stampOf}
-use Rattle.house.specs.Orders.{RealStamp, stamp-of-says, no-ballot-says}
+use Rattle.house.specs.Pairs.{district, boxNo, noBallot, isNoBallot, realStamp, realBallot}
+use Rattle.house.specs.Orders.{RealStamp, real-stamp-says, real-stamp-is, RealBallot, real-ballot-says, real-ballot-is, no-ballot-says}
 use Rattle.house.specs.declared.District.{District}
 use Rattle.house.specs.declared.BoxNo.{BoxNo}
 use Rattle.house.specs.declared.Ballot.{Ballot}
@@ -133,23 +133,20 @@ names-district P j d s h = go (look (ltb (d .0) (P .districts)))
 
     go : (ltb (d .0) (P .districts) ≡ true) ⊎ (ltb (d .0) (P .districts) ≡ false) → d .0 < P .districts
     go (inl e) = ltb-true (d .0) (P .districts) e
-    go (inr e) = never h′ (digit-beyond (getD (P .masks) j 0) (P .districts) (d .0) (plan-says P s .mask-fits j l) (leb-of e))
-      where
-        leb-of : ltb (d .0) (P .districts) ≡ false → P .districts ≤ d .0
-        leb-of x = borrow.Author.Tests.ltb-false (d .0) (P .districts) x
+    go (inr e) = never h′ (digit-beyond (getD (P .masks) j 0) (P .districts) (d .0) (plan-says P s .mask-fits j l) (ltb-false (d .0) (P .districts) e))
 
 -- a real ballot of a district
 pub record BallotIn (P : Plan) (d : District) (b : Ballot) : Type 0 where
-  pub real : 1 ≤ b .number
+  pub real : RealBallot b
   pub owner-box : b .owner .0 < boxesOf P
   pub here : homeOf P (b .owner) ≡ d
 
 pub ballot-in-says : (P : Plan) (d : District) (b : Ballot) → ballotIn P d b ≡ true → BallotIn P d b
 unfolding ballotIn
 ballot-in-says P d b h =
-    let t = and-right (leb 1 (b .number)) (isBox P (b .owner) && eqb (homeOf P (b .owner) .0) (d .0)) h in
+    let t = and-right (realBallot b) (isBox P (b .owner) && eqb (homeOf P (b .owner) .0) (d .0)) h in
     record {
-      real = leb-true 1 (b .number) (and-left (leb 1 (b .number)) (isBox P (b .owner) && eqb (homeOf P (b .owner) .0) (d .0)) h);
+      real = real-ballot-says b (and-left (realBallot b) (isBox P (b .owner) && eqb (homeOf P (b .owner) .0) (d .0)) h);
       owner-box = box-says P (b .owner) (and-left (isBox P (b .owner)) (eqb (homeOf P (b .owner) .0) (d .0)) t);
       here = ap district (eqb-true (homeOf P (b .owner) .0) (d .0) (and-right (isBox P (b .owner)) (eqb (homeOf P (b .owner) .0) (d .0)) t));
     }
@@ -157,7 +154,7 @@ ballot-in-says P d b h =
 pub ballot-in-is : (P : Plan) (d : District) (b : Ballot) → BallotIn P d b → ballotIn P d b ≡ true
 unfolding ballotIn
 ballot-in-is P d b B =
-    and-both (leb 1 (b .number)) (isBox P (b .owner) && eqb (homeOf P (b .owner) .0) (d .0)) (borrow.Author.Tests.le-leb 1 (b .number) (B .real))
+    and-both (realBallot b) (isBox P (b .owner) && eqb (homeOf P (b .owner) .0) (d .0)) (real-ballot-is b (B .real))
     (and-both (isBox P (b .owner)) (eqb (homeOf P (b .owner) .0) (d .0)) (box-is P (b .owner) (B .owner-box)) (eq-eqb (homeOf P (b .owner) .0) (d .0) (ap (λ (e : District). e .0) (B .here))))
 
 pub none-or-in-says : (P : Plan) (d : District) (b : Ballot) → noneOrIn P d b ≡ true → (b ≡ noBallot) ⊎ BallotIn P d b
@@ -169,7 +166,11 @@ none-or-in-says P d b h = go (or-cases (isNoBallot b) (ballotIn P d b) h)
     go (inr e) = inr (ballot-in-says P d b e)
 
 -- a real stamp of a named district
-pub stamp-named-says : (P : Plan) (j : ℕ) (s : Stamp) → stampNamed P j s ≡ true → RealStamp (s .district) s × (names P j (s .district) ≡ true)
+pub stamp-named-says : (P : Plan) (j : ℕ) (s : Stamp) → stampNamed P j s ≡ true → RealStamp s × (names P j (s .district) ≡ true)
 unfolding stampNamed
 stamp-named-says P j s h =
-    (stamp-of-says (s .district) s (and-left (stampOf (s .district) s) (names P j (s .district)) h), and-right (stampOf (s .district) s) (names P j (s .district)) h)
+    (real-stamp-says s (and-left (realStamp s) (names P j (s .district)) h), and-right (realStamp s) (names P j (s .district)) h)
+
+pub stamp-named-is : (P : Plan) (j : ℕ) (s : Stamp) → RealStamp s → names P j (s .district) ≡ true → stampNamed P j s ≡ true
+unfolding stampNamed
+stamp-named-is P j s R n = and-both (realStamp s) (names P j (s .district)) (real-stamp-is s R) n

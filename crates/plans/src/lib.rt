@@ -2,7 +2,7 @@
 ghost use mathlib.Core.Path.{_≡_};
 ghost use mathlib.Core.Bool.{true};
 ghost use Prim.Native.Nat.{ℕ, _+_, _*_, _<_, _≤_};
-ghost use Rattle.plans.specs.Plan.{sizeOf, quorumOf, boxesOf, officeOf, homeOf, isBox, isOffice, isJob, sameHome, maskOf, names, ballotIn, noneOrIn, stampNamed, maskSound, countsSound, masksSound, planSound};
+ghost use Rattle.plans.specs.Plan.{sizeOf, quorumOf, boxesOf, officeOf, homeOf, isBox, isOffice, isJob, sameHome, maskOf, names, ballotIn, noneOrIn, stampNamed, planSound};
 use house::Ballot;
 use house::BoxNo;
 use house::District;
@@ -111,7 +111,7 @@ pub fn ballot_in(plan: Plan, d: District, b: Ballot) -> bool
     ensures { λ r. ⌜ r ≡ ballotIn plan d b ⌝ }
 {
     let p = b.owner;
-    (1 <= b.number) & (is_box(plan, p) & (home_of(plan, p).0 == d.0))
+    house::real_ballot(b) & (is_box(plan, p) & (home_of(plan, p).0 == d.0))
 }
 
 pub fn none_or_in(plan: Plan, d: District, b: Ballot) -> bool
@@ -125,41 +125,5 @@ pub fn stamp_named(plan: Plan, job: u8, s: Stamp) -> bool
     ensures { λ r. ⌜ r ≡ stampNamed plan job s ⌝ }
 {
     let d = s.district;
-    house::stamp_of(d, s) & named(plan, job, d)
-}
-
-fn mask_sound(districts: u8, mask: u8) -> bool
-    requires { ⌜ districts ≤ 4 ⌝ }
-    ensures { λ r. ⌜ r ≡ maskSound districts mask ⌝ }
-{
-    (1 <= mask) & (mask < (1u8 << districts))
-}
-
-fn counts_sound(plan: Plan) -> bool
-    ensures { λ r. ⌜ r ≡ countsSound plan ⌝ }
-{
-    ((1 <= plan.districts) & (plan.districts <= house::MOST_DISTRICTS))
-        & ((1 <= plan.jobs) & (plan.jobs <= house::MOST_JOBS))
-}
-
-fn masks_sound(plan: Plan, n: u8) -> bool
-    requires { ⌜ (n ≤ 64) × (plan .districts ≤ 4) ⌝ }
-    ensures { λ r. ⌜ r ≡ masksSound plan n ⌝ }
-{
-    let masks = plan.masks;
-    let mut ok = true;
-    for j in 0..n {
-        let at = j as usize;
-        ok = ok & mask_sound(plan.districts, masks[at]);
-    }
-    ok
-}
-
-pub fn plan_sound(plan: Plan) -> bool
-    ensures { λ r. ⌜ r ≡ planSound plan ⌝ }
-{
-    if counts_sound(plan) {} else {
-        return false;
-    }
-    masks_sound(plan, plan.jobs)
+    house::real_stamp(s) & named(plan, job, d)
 }

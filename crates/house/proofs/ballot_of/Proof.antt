@@ -1,11 +1,11 @@
 -- `house::ballot_of` meets its contract.
-use Rattle.house.specs.Pairs.{ballotOf}
+use Rattle.house.specs.Pairs.{ballotOf, realBallot}
 use mathlib.Core.Path.{refl}
 use Rattle.house.proofs.ballot_of.Statement.{statement}
 use Rattle.house.proofs.ballot_of.Tie as tie
 
 returns : tie.Need-returns
-unfolding ballotOf
+unfolding ballotOf realBallot
 returns c = refl
 
 pub ballot-of-spec : {M : Type 1} → statement M

@@ -1,11 +1,11 @@
 -- `house::stamp_of` meets its contract.
-use Rattle.house.specs.Pairs.{stampOf, timeFits}
+use Rattle.house.specs.Pairs.{stampOf, realStamp, timeFits}
 use mathlib.Core.Path.{refl}
 use Rattle.house.proofs.stamp_of.Statement.{statement}
 use Rattle.house.proofs.stamp_of.Tie as tie
 
 returns : tie.Need-returns
-unfolding stampOf timeFits
+unfolding stampOf realStamp timeFits
 returns c = refl
 
 pub stamp-of-spec : {M : Type 1} → statement M

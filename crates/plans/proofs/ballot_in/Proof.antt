@@ -4,6 +4,9 @@ use borrow.Author.Needs.{needs}
 use Rattle.plans.proofs.ballot_in.Statement.{statement}
 use Rattle.plans.proofs.ballot_in.Tie as tie
 
+real-ballot-requires : tie.Need-real-ballot-requires
+real-ballot-requires c κs = search needs
+
 is-box-requires : tie.Need-is-box-requires
 is-box-requires c κs = search needs
 
@@ -12,7 +15,7 @@ home-of-requires c κs = search needs
 
 returns : tie.Need-returns
 unfolding ballotIn
-returns c = rw (c .before .before .before .is-box .ensures, c .before .before .home-of .ensures)
+returns c = rw (c .before .before .before .before .real-ballot .ensures, c .before .before .before .is-box .ensures, c .before .before .home-of .ensures)
 
 pub ballot-in-spec : {M : Type 1} → statement M
-ballot-in-spec = tie.close (tie.spec is-box-requires home-of-requires returns)
+ballot-in-spec = tie.close (tie.spec real-ballot-requires is-box-requires home-of-requires returns)

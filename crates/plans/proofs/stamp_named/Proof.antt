@@ -4,15 +4,15 @@ use borrow.Author.Needs.{needs}
 use Rattle.plans.proofs.stamp_named.Statement.{statement}
 use Rattle.plans.proofs.stamp_named.Tie as tie
 
-stamp-of-requires : tie.Need-stamp-of-requires
-stamp-of-requires c κs = search needs
+real-stamp-requires : tie.Need-real-stamp-requires
+real-stamp-requires c κs = search needs
 
 named-requires : tie.Need-named-requires
 named-requires c κs = search needs
 
 returns : tie.Need-returns
 unfolding stampNamed
-returns c = rw (c .before .stamp-of .ensures, c .named .ensures)
+returns c = rw (c .before .real-stamp .ensures, c .named .ensures)
 
 pub stamp-named-spec : {M : Type 1} → statement M
-stamp-named-spec = tie.close (tie.spec stamp-of-requires named-requires returns)
+stamp-named-spec = tie.close (tie.spec real-stamp-requires named-requires returns)

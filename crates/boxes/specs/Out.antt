@@ -1,0 +1,55 @@
+-- What a step comes to: a refusal with its number, or the new box, the records to send and the job delivered. Sends.
+use Prim.Native.Nat.{ℕ}
+use mathlib.Core.Bool.{Bool, true, false, not, _&&_, _||_}
+use mathlib.Core.List.{List, [], _∷_, _++_}
+use lib.Dec.{eqb}
+use lib.ListN.{length}
+use Rattle.laws.specs.Choice.{pick}
+use Rattle.laws.specs.Fold.{upto}
+use Rattle.house.specs.Pairs.{boxNo}
+use Rattle.house.specs.declared.BoxNo.{BoxNo}
+use Rattle.plans.specs.Plan.{boxesOf, homeOf, sameHome, names}
+use Rattle.plans.specs.declared.Plan.{Plan}
+use Rattle.records.specs.Rec.{Rec}
+use Rattle.records.specs.Bytes.{encodeAll}
+use Rattle.records.specs.declared.Answer.the-variants.{Done, No}
+use Rattle.boxes.specs.Box.{ownOf}
+use Rattle.boxes.specs.declared.BoxState.{BoxState}
+use Rattle.boxes.specs.declared.Delivery.{Delivery}
+use Rattle.boxes.specs.declared.Delivery.the-variants.{Nothing, Job}
+use Rattle.boxes.specs.declared.Outcome.{Outcome}
+
+pub data Out : Type 0 where
+  refused : (n : ℕ) → Out
+  does : (x : BoxState) (sent : List Rec) (delivered : Delivery) → Out
+
+-- a test that must hold, or the answer is n
+unfoldable pub guard : Bool → ℕ → Out → Out
+guard true n o = o
+guard false n o = refused n
+
+-- the records of a step; a refusal sends none
+abbrev pub recordsOf : Out → List Rec
+recordsOf (refused n) = []
+recordsOf (does x l d) = l
+
+-- what the code answers: the same box, 0 bytes and no delivery for a refusal
+abbrev pub resultOf : Plan → BoxState → Out → Outcome
+resultOf P x (refused n) = record { answer = No n; used = 0; records = 0; state = x; delivery = Nothing }
+resultOf P x (does y l d) = record { answer = Done; used = length (encodeAll P l); records = length l; state = y; delivery = d }
+
+-- a record to each box that is meant, by rising box number
+unfoldable pub toEach : Plan → (BoxNo → Bool) → (BoxNo → Rec) → List Rec
+toEach P meant f = upto (λ l p. l ++ pick (meant (boxNo p)) (f (boxNo p) ∷ []) []) [] (boxesOf P)
+
+-- to all boxes of the districts that job j names
+abbrev pub toNamed : Plan → ℕ → (BoxNo → Rec) → List Rec
+toNamed P j f = toEach P (λ p. names P j (homeOf P p)) f
+
+-- to the boxes of the own district
+abbrev pub toHome : Plan → BoxState → (BoxNo → Rec) → List Rec
+toHome P x f = toEach P (λ p. sameHome P p (ownOf x)) f
+
+-- to the other boxes of the own district
+abbrev pub toOthers : Plan → BoxState → (BoxNo → Rec) → List Rec
+toOthers P x f = toEach P (λ p. sameHome P p (ownOf x) && not (eqb (p .0) (ownOf x .0))) f

@@ -1,0 +1,2 @@
+-- Laws of reading a section element by element.
+pub mod Turns

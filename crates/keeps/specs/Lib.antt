@@ -1,0 +1,20 @@
+-- What every step keeps: a box stays sound, its records obey the rules and fit into the tray (document 01, 'A box', 'Records').
+pub mod Laws
+pub mod Rows
+pub mod Obeys
+pub mod Parts
+pub mod Listing
+pub mod Sound
+pub mod Fresh
+pub mod Sends
+pub mod Size
+pub mod Changes
+pub mod Goods
+pub mod HandOut
+pub mod Merge
+pub mod Leads
+pub mod KeptStamps
+pub mod Jobs
+pub mod Structs
+pub mod Steps
+pub mod Lively

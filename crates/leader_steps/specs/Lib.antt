@@ -1,0 +1,2 @@
+-- The records of a vote that makes a quorum, as the code sends them.
+pub mod Voted

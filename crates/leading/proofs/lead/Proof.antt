@@ -1,0 +1,15 @@
+-- `leading::lead` meets its contract.
+use Rattle.boxes.specs.Leaders.{leading}
+use borrow.Author.Needs.{needs}
+use Rattle.leading.proofs.lead.Statement.{statement}
+use Rattle.leading.proofs.lead.Tie as tie
+
+put-mode-requires : tie.Need-put-mode-requires
+put-mode-requires c κs = search needs
+
+returns : tie.Need-returns
+unfolding leading
+returns c = c .put-mode .ensures
+
+pub lead-spec : {M : Type 1} → statement M
+lead-spec = tie.close (tie.spec put-mode-requires returns)

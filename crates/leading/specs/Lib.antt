@@ -1,0 +1,2 @@
+-- What an answer of the order stand says of the box.
+pub mod Room

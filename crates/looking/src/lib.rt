@@ -1,0 +1,121 @@
+// What stands at a place of a box. A place beyond holds 'none', as in specs/Box.antt of the crate boxes, which says what each function means.
+ghost use mathlib.Core.Path.{_≡_};
+ghost use Rattle.boxes.specs.Box.{homeIn, rowAt, sentAt, listedAt, lastStamp, onList, keptBallot, keptStamp, marksAt};
+use boxes::BoxState;
+use boxes::Listed;
+use house::Ballot;
+use house::District;
+use house::Row;
+use house::Stamp;
+use plans::Plan;
+
+// so many pairs of job and district have a kept ACCEPT
+pub const MOST_KEPT: usize = 256;
+
+// the own district
+pub fn home_in(plan: Plan, x: BoxState) -> District
+    ensures { λ r. ⌜ r ≡ homeIn plan x ⌝ }
+{
+    let c = x.core;
+    let own = c.own;
+    plans::home_of(plan, own)
+}
+
+pub fn row_at(x: BoxState, job: u8) -> Row
+    ensures { λ r. ⌜ r ≡ rowAt x job ⌝ }
+{
+    if house::MOST_JOBS <= job {
+        return house::no_row();
+    }
+    let c = x.core;
+    let j = job as usize;
+    c.table[j]
+}
+
+pub fn sent_at(x: BoxState, job: u8) -> bool
+    ensures { λ r. ⌜ r ≡ sentAt x job ⌝ }
+{
+    if house::MOST_JOBS <= job {
+        return false;
+    }
+    let c = x.core;
+    let j = job as usize;
+    c.sent[j]
+}
+
+pub fn marks_at(x: BoxState, job: u8) -> u32
+    ensures { λ r. ⌜ r ≡ marksAt x job ⌝ }
+{
+    if house::MOST_JOBS <= job {
+        return 0;
+    }
+    let v = x.volatile;
+    let j = job as usize;
+    v.marks[j]
+}
+
+// the ballot of the ACCEPT kept for a job and a district
+pub fn kept_ballot(x: BoxState, job: u8, d: District) -> Ballot
+    ensures { λ r. ⌜ r ≡ keptBallot x job d ⌝ }
+{
+    let at = (job as usize) * 4 + d.0 as usize;
+    if MOST_KEPT <= at {
+        return house::no_ballot();
+    }
+    let v = x.volatile;
+    v.kept_ballots[at]
+}
+
+// and its stamp
+pub fn kept_stamp(x: BoxState, job: u8, d: District) -> Stamp
+    ensures { λ r. ⌜ r ≡ keptStamp x job d ⌝ }
+{
+    let at = (job as usize) * 4 + d.0 as usize;
+    if MOST_KEPT <= at {
+        return house::no_stamp();
+    }
+    let v = x.volatile;
+    v.kept_stamps[at]
+}
+
+// place i of the delivered list
+pub fn listed_at(x: BoxState, i: u8) -> Listed
+    ensures { λ r. ⌜ r ≡ listedAt x i ⌝ }
+{
+    if house::MOST_JOBS <= i {
+        return Listed {
+            job: 0,
+            stamp: house::no_stamp(),
+        };
+    }
+    let c = x.core;
+    let at = i as usize;
+    c.list[at]
+}
+
+// the last delivered stamp, none if the list is empty
+pub fn last_stamp(x: BoxState) -> Stamp
+    ensures { λ r. ⌜ r ≡ lastStamp x ⌝ }
+{
+    let c = x.core;
+    let n = c.count;
+    if n == 0 {
+        return house::no_stamp();
+    }
+    let last = listed_at(x, n - 1);
+    last.stamp
+}
+
+// the job is on the delivered list
+pub fn on_list(x: BoxState, job: u8) -> bool
+    ensures { λ r. ⌜ r ≡ onList x job ⌝ }
+{
+    let mut found = false;
+    let c = x.core;
+    let n = c.count;
+    for i in 0..n {
+        let l = listed_at(x, i);
+        found = found | (l.job == job);
+    }
+    found
+}

@@ -1,0 +1,68 @@
+-- `merging::merged_table` meets its contract.
+use mathlib.Core.Path.{_≡_, refl, _∙_, ap}
+use Rattle.merging.specs.Votes.{table-step}
+use Rattle.boxes.specs.Leaders.{mergedTable}
+use mathlib.Core.List.{[], _∷_}
+use lib.ListN.{replicate}
+use native.Mathlib.Omega.{arith}
+use Prim.Native.Nat.{_≤_, _-_}
+use borrow.Author.Needs.{needs}
+use Rattle.merging.proofs.merged_table.Statement.{statement}
+use Rattle.merging.proofs.merged_table.Tie as tie
+
+abbrev Inv-loop : tie.InvT-loop
+Inv-loop low high jobs n table₀ j₀ table j = (j ≤ n) × (n ≡ jobs) × (table ≡ mergedTable (low ∷ high ∷ []) j)
+
+abbrev μ-loop : tie.MeasureT-loop
+μ-loop low high jobs n table₀ j₀ table j = n - j
+
+no-row-requires : tie.Need-no-row-requires Inv-loop μ-loop
+no-row-requires c κs = search needs
+
+loop-holds : tie.Need-loop-holds Inv-loop μ-loop
+unfolding mergedTable
+loop-holds c = (search needs, refl, ap (replicate 64) (c .no-row .ensures))
+
+merged-row-requires : tie.Need-merged-row-requires Inv-loop μ-loop
+merged-row-requires c κs = search needs
+
+mul-table : tie.Need-mul-table Inv-loop μ-loop
+mul-table c = search needs
+
+array-set-from-table : tie.Need-array-set-from-table Inv-loop μ-loop
+array-set-from-table c = search needs
+
+add-j : tie.Need-add-j Inv-loop μ-loop
+add-j c = search needs
+
+loop-less : tie.Need-loop-less Inv-loop μ-loop
+loop-less c = search needs
+
+loop-again : tie.Need-loop-again Inv-loop μ-loop
+loop-again c =
+    let a = c .before .before .before .before .args in
+    let l = c .before .before .loop in
+    (omega arith, refl, rw (l .inv .2, c .merged-row .ensures) (table-step (a .low ∷ a .high ∷ []) (l .j)))
+
+returns : tie.Need-returns Inv-loop μ-loop
+returns c =
+    let a = c .before .before .before .args in
+    let l = c .before .loop in
+    let e : l .j ≡ a .jobs = omega arith in
+    l .inv .2 ∙ ap (mergedTable (a .low ∷ a .high ∷ [])) e
+
+pub merged-table-spec : {M : Type 1} → statement M
+merged-table-spec =
+    tie.close
+    (tie.spec
+    Inv-loop
+    μ-loop
+    no-row-requires
+    loop-holds
+    merged-row-requires
+    mul-table
+    array-set-from-table
+    add-j
+    loop-less
+    loop-again
+    returns)

@@ -1,0 +1,2 @@
+-- Laws of two votes: what the definitions of the merge come to for them.
+pub mod Votes

@@ -1,0 +1,127 @@
+// The merge of the votes that make a quorum. What each function means stands in specs/Leaders.antt of the crate boxes.
+ghost use mathlib.Core.Path.{_≡_};
+ghost use mathlib.Core.Bool.{true};
+ghost use mathlib.Core.List.{[], _∷_};
+ghost use Prim.Native.Nat.{_<_, _≤_};
+ghost use Rattle.laws.specs.Choice.{pick};
+ghost use Rattle.boxes.specs.Multicast.{raised};
+ghost use Rattle.boxes.specs.Leaders.{voteOf, votesWith, topBallot, topClock, mergedRow, mergedTable, merged};
+use boxes::BoxState;
+use boxes::Status;
+use boxes::Vote;
+use house::Ballot;
+use house::BoxNo;
+use house::Row;
+use house::Stamp;
+use plans::Plan;
+
+// the clock raised to a time
+pub fn raise(c: u32, t: u32) -> u32
+    ensures { λ r. ⌜ r ≡ raised c t ⌝ }
+{
+    if c < t { t } else { c }
+}
+
+// a vote as it is kept, whatever ballot it is for
+pub fn vote_of(from: BoxNo, cballot: Ballot, clock: Stamp, table: [Row; 64]) -> Vote
+    ensures { λ r. ⌜ ((b : Ballot) → r ≡ voteOf from (record { ballot = b; cballot = cballot; clock = clock; table = table })) ⌝ }
+{
+    Vote {
+        held: true,
+        voter: from,
+        cballot: cballot,
+        clock: clock.time,
+        table: table,
+    }
+}
+
+// the highest cballot of two votes
+pub fn top_ballot(low: Vote, high: Vote) -> Ballot
+    ensures { λ r. ⌜ r ≡ topBallot (low ∷ high ∷ []) ⌝ }
+{
+    let a = low.cballot;
+    let b = high.cballot;
+    if house::ballot_below(a, b) { b } else { a }
+}
+
+// the larger clock of two votes
+pub fn top_clock(low: Vote, high: Vote) -> u32
+    ensures { λ r. ⌜ r ≡ topClock (low ∷ high ∷ []) ⌝ }
+{
+    raise(low.clock, high.clock)
+}
+
+// the row of the first of two votes that passes, else another row
+pub fn first_row(one: bool, low: Row, two: bool, high: Row, other: Row) -> Row
+    ensures { λ r. ⌜ r ≡ pick one low (pick two high other) ⌝ }
+{
+    if one {
+        return low;
+    }
+    if two {
+        return high;
+    }
+    other
+}
+
+// committed at a voter, else accepted at a voter of highest cballot, else start
+pub fn merged_row(low: Vote, high: Vote, job: usize) -> Row
+    requires { ⌜ job < 64 ⌝ }
+    ensures { λ r. ⌜ r ≡ mergedRow (low ∷ high ∷ []) job ⌝ }
+{
+    let a = low.table[job];
+    let b = high.table[job];
+    let top = top_ballot(low, high);
+    let one = low.cballot;
+    let two = high.cballot;
+    let at_one = house::same_ballot(one, top) & (a.phase == 2);
+    let at_two = house::same_ballot(two, top) & (b.phase == 2);
+    let start = house::no_row();
+    let accepted = first_row(at_one, a, at_two, b, start);
+    first_row(a.phase == 3, a, b.phase == 3, b, accepted)
+}
+
+pub fn merged_table(low: Vote, high: Vote, jobs: u8) -> [Row; 64]
+    requires { ⌜ jobs ≤ 64 ⌝ }
+    ensures { λ r. ⌜ r ≡ mergedTable (low ∷ high ∷ []) jobs ⌝ }
+{
+    let n = jobs as usize;
+    let start = house::no_row();
+    let mut table = [start; 64];
+    for j in 0..n {
+        let row = merged_row(low, high, j);
+        table[j] = row;
+    }
+    table
+}
+
+// two votes, the lower box number first: table merged, clock the larger, sent flags cleared, cballot set, vote dropped
+pub fn merge_two(plan: Plan, x: BoxState, low: Vote, high: Vote) -> BoxState
+    requires { ⌜ plan .jobs ≤ 64 ⌝ }
+    ensures { λ r. ⌜ r ≡ merged plan x (low ∷ high ∷ []) ⌝ }
+{
+    let c = x.core;
+    let b = c.ballot;
+    let clock = top_clock(low, high);
+    let table = merged_table(low, high, plan.jobs);
+    let with_table = changes::put_table(x, clock, table);
+    let cleared = [false; 64];
+    let unsent = changes::put_sent(with_table, cleared);
+    let mode = changes::put_mode(unsent, Status::Recovering, b, b);
+    changes::put_vote(mode, boxes::no_vote())
+}
+
+// the kept vote and the new one
+pub fn merge(plan: Plan, x: BoxState, new: Vote) -> BoxState
+    requires { ⌜ (x .volatile .vote .held ≡ true) × (plan .jobs ≤ 64) ⌝ }
+    ensures { λ r. ⌜ r ≡ merged plan x (votesWith (x .volatile .vote) new) ⌝ }
+{
+    let v = x.volatile;
+    let old = v.vote;
+    let p = old.voter;
+    let q = new.voter;
+    if p.0 < q.0 {
+        return merge_two(plan, x, old, new);
+    }
+    merge_two(plan, x, new, old)
+}

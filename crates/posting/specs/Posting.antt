@@ -1,0 +1,90 @@
+-- The post: how much of it is used, where record k begins, and one writing behind what is used.
+use Prim.Native.Nat.{ℕ, zero, suc, _+_, _-_, _*_, _≤_, _<_}
+use mathlib.Core.Bool.{Bool, true, false}
+use mathlib.Core.List.{List, [], _++_, append-nil}
+use mathlib.Core.Logic.{_⊎_, inl, inr}
+use mathlib.Core.Path.{_≡_, refl, sym, ap, _∙_}
+use native.Mathlib.Numerals.{add-one}
+use native.Mathlib.Omega.{arith}
+use lib.ListN.{length, take, drop, getD, length-drop, drop-of-length-le}
+use lib.Seq.{take-all, take-nil, drop-length}
+use lib.Dec.{ltb}
+use borrow.Author.Tests.{le-ltb, ltb-false}
+use borrow.Rule.Slice.PartMut.{midOf, putMid}
+use Rattle.laws.specs.Choice.{pick, pick-true, pick-false, pick-when, look}
+use Rattle.laws.specs.Fold.{upto, upto-step}
+use Rattle.laws.specs.Tray.{onto, rest-of}
+use Rattle.house.specs.Limits.{mostPost}
+use Rattle.plans.specs.declared.Plan.{Plan}
+use Rattle.records.specs.Bytes.{lengthOf}
+
+-- how much of a lent post is used at most
+unfoldable pub roomOf : List ℕ → ℕ
+roomOf s = pick (ltb (length s) mostPost) (length s) mostPost
+
+pub room-most : (s : List ℕ) → roomOf s ≤ length s
+unfolding roomOf
+room-most s = pick-when (λ n. n ≤ length s) (ltb (length s) mostPost) (λ h. omega arith) (λ h. ltb-false (length s) mostPost h)
+
+-- the length of the record that begins at a place: its kind decides
+unfoldable pub lengthAt : Plan → List ℕ → ℕ → ℕ
+lengthAt P s at = lengthOf P (getD s (at + 1) 0)
+
+-- from the beginning of one record to that of the next, as long as there are records
+unfoldable pub nextStart : Plan → List ℕ → ℕ → ℕ → ℕ
+nextStart P s used at = pick (ltb at used) (at + lengthAt P s at) at
+
+-- where record k begins, if the first `used` bytes hold so many records
+unfoldable pub startOf : Plan → List ℕ → ℕ → ℕ → ℕ
+startOf P s used k = upto (λ at i. nextStart P s used at) 0 k
+
+-- the bytes of the record that begins at a place, and the box that it is addressed to
+unfoldable pub bytesFrom : Plan → List ℕ → ℕ → List ℕ
+bytesFrom P s at = take (lengthAt P s at) (drop at s)
+
+unfoldable pub toBox : List ℕ → ℕ → ℕ
+toBox s at = getD s (at + 3) 0
+
+-- ---- laws
+
+pub start-none : (P : Plan) (s : List ℕ) (used : ℕ) → startOf P s used 0 ≡ 0
+unfolding startOf
+start-none P s used = refl
+
+pub start-step : (P : Plan) (s : List ℕ) (used k : ℕ) → nextStart P s used (startOf P s used k) ≡ startOf P s used (k + 1)
+unfolding startOf
+start-step P s used k = upto-step (λ (at i : ℕ). nextStart P s used at) 0 k
+
+-- behind the last record the walk stays
+pub start-stays : (P : Plan) (s : List ℕ) (used i k : ℕ) → used ≤ startOf P s used i → startOf P s used (i + k) ≡ startOf P s used i
+unfolding nextStart
+start-stays P s used i zero h = ap (startOf P s used) (omega arith)
+start-stays P s used i (suc k) h =
+    let e : i + suc k ≡ (i + k) + 1 = omega arith in
+    ap (startOf P s used) e ∙ sym (start-step P s used (i + k)) ∙ ap (nextStart P s used) (start-stays P s used i k h)
+    ∙ pick-false (startOf P s used i + lengthAt P s (startOf P s used i)) (startOf P s used i) (le-ltb (startOf P s used i) used h)
+
+-- bytes written behind what is used
+pub put-behind : (s bs m : List ℕ) (n : ℕ) → n ≤ length s → m ≡ onto bs (midOf n (length s - n) s) → putMid n (length s - n) s m ≡ take n s ++ onto bs (drop n s)
+put-behind s bs m n h e =
+    rw (e, take-all (length s - n) (drop n s) (rw length-drop (omega arith)), drop-of-length-le (drop n s) {i = length s - n} (rw length-drop (omega arith)), append-nil)
+
+-- the part of a post that holds the record at a place, whichever the place
+pub part-from : (s : List ℕ) (at n from end : ℕ) → from ≡ pick (ltb at (length s)) at (length s) → end ≡ pick (ltb (at + n) (length s)) (at + n) (length s)
+    → take (end - from) (drop from s) ≡ take n (drop at s)
+part-from s at n from end ef ee = go (look (ltb at (length s))) (look (ltb (at + n) (length s)))
+  where
+    go : (ltb at (length s) ≡ true) ⊎ (ltb at (length s) ≡ false) → (ltb (at + n) (length s) ≡ true) ⊎ (ltb (at + n) (length s) ≡ false) → take (end - from) (drop from s) ≡ take n (drop at s)
+    go (inl h) (inl k) =
+        let f : from ≡ at = ef ∙ pick-true at (length s) h in
+        let m : end - from ≡ n = rw (ee ∙ pick-true (at + n) (length s) k, f) (omega arith) in
+        rw (m, f)
+    go (inl h) (inr k) =
+        let f : from ≡ at = ef ∙ pick-true at (length s) h in
+        let z : end ≡ length s = ee ∙ pick-false (at + n) (length s) k in
+        let l = ltb-false (at + n) (length s) k in
+        rw (z, f, rest-of at s) (sym (take-all n (drop at s) (rw length-drop (omega arith))))
+    go (inr h) k =
+        let f : from ≡ length s = ef ∙ pick-false at (length s) h in
+        let l = ltb-false at (length s) h in
+        rw (f, drop-length s, drop-of-length-le s {i = at} l, take-nil (end - length s)) (sym (take-nil n))

@@ -1,0 +1,2 @@
+-- Laws of writing a section: its count, then one element behind another.
+pub mod Sections

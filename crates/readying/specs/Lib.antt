@@ -1,0 +1,2 @@
+-- Laws of the next ready job.
+pub mod Next

@@ -1,0 +1,3 @@
+-- The rehearsal: what an order does to a night, over the bytes of its post.
+pub mod Night
+pub mod Settled

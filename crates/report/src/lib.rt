@@ -1,0 +1,78 @@
+// The report at the end of the rehearse program: a line for each box and a line for each job.
+// Each writer writes over the front of a lent tray, answers how many bytes it wrote, and leaves the rest as it was.
+ghost use mathlib.Core.Path.{_≡_};
+ghost use Prim.Native.Nat.{_≤_};
+ghost use lib.ListN.{length};
+ghost use Rattle.laws.specs.Tray.{onto};
+ghost use Rattle.report.specs.Report.{titled, jobsText, listText, boxText, stampText, jobText, boxMost, jobMost};
+
+// A word of three bytes and a number.
+fn put_titled(word: &[u8; 3], n: u8, t: &mut [u8]) -> usize
+    requires { ⌜ 7 ≤ length (now t) ⌝ }
+    ensures { λ r. ⌜ (r ≤ 7) × (r ≡ length (titled (now (word .entry)) n)) × (now (t .exit) ≡ onto (titled (now (word .entry)) n) (now (t .entry))) ⌝ }
+{
+    let a = texts::put(word, t);
+    a + texts::put_item(n, &mut t[a..])
+}
+
+// The first `count` jobs of a list, a space before each.
+fn put_jobs(list: [u8; 64], count: usize, t: &mut [u8]) -> usize
+    requires { ⌜ (count ≤ 64) × (256 ≤ length (now t)) ⌝ }
+    ensures { λ r. ⌜ (r ≤ 256) × (r ≡ length (jobsText list count)) × (now (t .exit) ≡ onto (jobsText list count) (now (t .entry))) ⌝ }
+{
+    let mut used = 0;
+    for i in 0..count {
+        let more = texts::put_item(list[i], &mut t[used..]);
+        used += more;
+    }
+    used
+}
+
+// ` list`, the jobs, and the end of the line.
+fn put_list(list: [u8; 64], count: usize, t: &mut [u8]) -> usize
+    requires { ⌜ (count ≤ 64) × (262 ≤ length (now t)) ⌝ }
+    ensures { λ r. ⌜ (r ≤ 262) × (r ≡ length (listText list count)) × (now (t .exit) ≡ onto (listText list count) (now (t .entry))) ⌝ }
+{
+    let a = texts::put(b" list", t);
+    let b = a + put_jobs(list, count, &mut t[a..]);
+    b + texts::put(b"\n", &mut t[b..])
+}
+
+// `box B list` and the jobs of the list.
+pub fn box_line(number: u8, list: [u8; 64], count: usize, t: &mut [u8]) -> usize
+    requires { ⌜ (count ≤ 64) × (boxMost ≤ length (now t)) ⌝ }
+    ensures { λ r. ⌜ (r ≤ boxMost) × (r ≡ length (boxText number list count)) × (now (t .exit) ≡ onto (boxText number list count) (now (t .entry))) ⌝ }
+{
+    let a = put_titled(b"box", number, t);
+    a + put_list(list, count, &mut t[a..])
+}
+
+// The time and the district of a stamp, or `- -` where there is none.
+fn put_stamp(committed: bool, time: u32, district: u8, t: &mut [u8]) -> usize
+    requires { ⌜ 15 ≤ length (now t) ⌝ }
+    ensures { λ r. ⌜ (r ≤ 15) × (r ≡ length (stampText committed time district)) × (now (t .exit) ≡ onto (stampText committed time district) (now (t .entry))) ⌝ }
+{
+    if committed {
+        let a = texts::put(b" ", t);
+        let b = a + texts::put_decimal(time, &mut t[a..]);
+        return b + texts::put_item(district, &mut t[b..]);
+    }
+    texts::put(b" - -", t)
+}
+
+// `job K TIME DISTRICT yes` or `no`.
+pub fn job_line(
+    job: u8,
+    committed: bool,
+    time: u32,
+    district: u8,
+    finished: bool,
+    t: &mut [u8],
+) -> usize
+    requires { ⌜ jobMost ≤ length (now t) ⌝ }
+    ensures { λ r. ⌜ (r ≤ jobMost) × (r ≡ length (jobText job committed time district finished)) × (now (t .exit) ≡ onto (jobText job committed time district finished) (now (t .entry))) ⌝ }
+{
+    let a = put_titled(b"job", job, t);
+    let b = a + put_stamp(committed, time, district, &mut t[a..]);
+    b + texts::put_either(finished, b" yes\n", b" no\n", &mut t[b..])
+}

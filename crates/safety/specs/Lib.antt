@@ -1,0 +1,43 @@
+-- Demand 3: the order theorem of White-Box Atomic Multicast over the world's steps. Nothing rests on this crate.
+-- The theorem stands in Demand3, its words in Demand3Words; the invariants in Inv, their words in Notions.
+-- words and statements
+pub mod Compare
+pub mod Quorate
+pub mod Notions
+pub mod Inv
+pub mod Demand3Words
+-- a step as a move
+pub mod Laws
+pub mod Sound
+pub mod Sends
+pub mod HandOut
+pub mod Moves
+pub mod View
+pub mod Counting
+pub mod Merging
+pub mod Pigeon
+pub mod Steps
+pub mod Origins
+-- inside one world
+pub mod CoreBase
+pub mod CoreTables
+pub mod CoreStamps
+pub mod CoreOrder
+-- every move keeps the invariants
+pub mod Grow
+pub mod Next
+pub mod StepBallots
+pub mod StepVolatile
+pub mod Commit
+pub mod StepHolds
+pub mod StepLocals
+pub mod StepAcks
+pub mod StepHands
+pub mod StepLists
+pub mod StepForms
+pub mod Run
+-- the theorem
+pub mod CoreGrows
+pub mod CoreLists
+pub mod CoreFinal
+pub mod Demand3

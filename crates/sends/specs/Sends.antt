@@ -1,0 +1,99 @@
+-- A record as a struct, sent to each box that its kind means, by rising box number; and the bytes of all of them.
+use Prim.Native.Nat.{ℕ, zero, suc, _+_, _<_, _≤_}
+use mathlib.Core.Bool.{Bool, true, false, not, _&&_, _||_}
+use mathlib.Core.List.{List, [], _∷_, _++_, append-assoc, append-nil}
+use mathlib.Core.Path.{_≡_, refl, sym, ap, _∙_}
+use native.Mathlib.Omega.{arith}
+use lib.ListN.{length, getD, length-append}
+use lib.Dec.{leb, eqb}
+use Rattle.laws.specs.Choice.{pick, pick-ap, pick-true, pick-false}
+use Rattle.laws.specs.Fold.{upto, upto-step}
+use Rattle.laws.specs.Tray.{allFor}
+use Rattle.house.specs.Pairs.{boxNo, noBallot}
+use Rattle.house.specs.declared.BoxNo.{BoxNo}
+use Rattle.plans.specs.Plan.{boxesOf, homeOf, sameHome, names}
+use Rattle.plans.specs.declared.Plan.{Plan}
+use Rattle.records.specs.Rec.{Rec, carried}
+use Rattle.records.specs.Bytes.{encode, encodeAll}
+use Rattle.records.specs.declared.Record.{Record}
+use Rattle.boxes.specs.Out.{toEach}
+
+-- the same record to another box
+unfoldable pub addressed : Record → BoxNo → Record
+addressed r p = record { kind = r .kind; from = r .from; to = p; job = r .job; ballots = r .ballots; stamps = r .stamps; table = r .table }
+
+-- 1 and 2 go to the boxes of named districts, 3 to each ballot's box, 4, 5 and 7 stay in the sender's district, and 7 spares the sender
+unfoldable pub goesTo : Plan → Record → BoxNo → Bool
+goesTo P r p =
+    pick (leb (r .kind) 2) (names P (r .job) (homeOf P p))
+    (pick (eqb (r .kind) 3) (names P (r .job) (homeOf P p) && eqb (getD (r .ballots) (homeOf P p .0) noBallot .owner .0) (p .0))
+    (sameHome P p (r .from) && (not (eqb (r .kind) 7) || not (eqb (p .0) (r .from .0)))))
+
+-- the bytes for box p: none if it is not meant
+unfoldable pub sentTo : Plan → Record → ℕ → List ℕ
+sentTo P r p = pick (goesTo P r (boxNo p)) (encode P (addressed r (boxNo p))) []
+
+unfoldable pub sentBytes : Plan → Record → List ℕ
+sentBytes P r = allFor (sentTo P r) (boxesOf P)
+
+-- records one behind the other
+pub encode-append : (P : Plan) (l k : List Rec) → encodeAll P (l ++ k) ≡ encodeAll P l ++ encodeAll P k
+unfolding encodeAll
+encode-append P [] k = refl
+encode-append P (r ∷ l) k = rw (encode-append P l k, append-assoc)
+
+pub encode-one : (P : Plan) (r : Rec) → encodeAll P (r ∷ []) ≡ encode P (carried r)
+unfolding encodeAll
+encode-one P r = append-nil (encode P (carried r))
+
+pub encode-none : (P : Plan) → encodeAll P [] ≡ []
+unfolding encodeAll
+encode-none P = refl
+
+-- how many of the boxes below n are meant, and of all
+unfoldable pub meantBelow : Plan → Record → ℕ → ℕ
+meantBelow P r n = upto (λ k p. k + pick (goesTo P r (boxNo p)) 1 0) 0 n
+
+unfoldable pub sentCount : Plan → Record → ℕ
+sentCount P r = meantBelow P r (boxesOf P)
+
+pub meant-step : (P : Plan) (r : Record) (n : ℕ) → meantBelow P r n + pick (goesTo P r (boxNo n)) 1 0 ≡ meantBelow P r (n + 1)
+unfolding meantBelow
+meant-step P r n = upto-step (λ (k p : ℕ). k + pick (goesTo P r (boxNo p)) 1 0) 0 n
+
+pub sent-meant : (P : Plan) (r : Record) (p : ℕ) → goesTo P r (boxNo p) ≡ true → sentTo P r p ≡ encode P (addressed r (boxNo p))
+unfolding sentTo
+sent-meant P r p e = pick-true (encode P (addressed r (boxNo p))) [] e
+
+pub sent-spared : (P : Plan) (r : Record) (p : ℕ) → goesTo P r (boxNo p) ≡ false → sentTo P r p ≡ []
+unfolding sentTo
+sent-spared P r p e = pick-false (encode P (addressed r (boxNo p))) [] e
+
+-- a list of records is what the struct r writes when it is sent
+pub record Sends (P : Plan) (l : List Rec) (r : Record) : Type 0 where
+  pub bytes : encodeAll P l ≡ sentBytes P r
+  pub count : length l ≡ sentCount P r
+
+-- a list made box by box is sent box by box, if the same boxes are meant and each gets the same record
+module _ (P : Plan) (meant : BoxNo → Bool) (f : BoxNo → Rec) (r : Record)
+    (who : (p : ℕ) → p < boxesOf P → meant (boxNo p) ≡ goesTo P r (boxNo p)) (what : (p : BoxNo) → carried (f p) ≡ addressed r p) where
+  made : ℕ → List Rec
+  made n = upto (λ l p. l ++ pick (meant (boxNo p)) (f (boxNo p) ∷ []) []) [] n
+
+  bytes-below : (n : ℕ) → n ≤ boxesOf P → encodeAll P (made n) ≡ allFor (sentTo P r) n
+  unfolding allFor made sentTo
+  bytes-below zero h = encode-none P
+  bytes-below (suc n) h =
+      encode-append P (made n) (pick (meant (boxNo n)) (f (boxNo n) ∷ []) [])
+      ∙ rw (bytes-below n (omega arith), pick-ap (encodeAll P) (meant (boxNo n)) (f (boxNo n) ∷ []) [], encode-one P (f (boxNo n)), encode-none P, what (boxNo n), who n (omega arith))
+
+  count-below : (n : ℕ) → n ≤ boxesOf P → length (made n) ≡ meantBelow P r n
+  unfolding made meantBelow
+  count-below zero h = refl
+  count-below (suc n) h =
+      length-append (made n) (pick (meant (boxNo n)) (f (boxNo n) ∷ []) [])
+      ∙ rw (count-below n (omega arith), pick-ap (length {A = Rec}) (meant (boxNo n)) (f (boxNo n) ∷ []) [], who n (omega arith))
+
+  pub each-sends : Sends P (toEach P meant f) r
+  unfolding toEach made sentBytes sentCount
+  each-sends = record { bytes = bytes-below (boxesOf P) (omega arith); count = count-below (boxesOf P) (omega arith) }

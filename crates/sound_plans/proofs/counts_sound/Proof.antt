@@ -1,0 +1,12 @@
+-- `sound_plans::counts_sound` meets its contract.
+use Rattle.plans.specs.Plan.{countsSound}
+use mathlib.Core.Path.{refl}
+use Rattle.sound_plans.proofs.counts_sound.Statement.{statement}
+use Rattle.sound_plans.proofs.counts_sound.Tie as tie
+
+returns : tie.Need-returns
+unfolding countsSound
+returns c = refl
+
+pub counts-sound-spec : {M : Type 1} → statement M
+counts-sound-spec = tie.close (tie.spec returns)

@@ -1,0 +1,18 @@
+-- `sound_volatiles::job_marks_sound` meets its contract.
+use Rattle.sound_volatiles.specs.Pairs.{jobMarksSound}
+use borrow.Author.Needs.{needs}
+use Rattle.sound_volatiles.proofs.job_marks_sound.Statement.{statement}
+use Rattle.sound_volatiles.proofs.job_marks_sound.Tie as tie
+
+only-boxes-requires : tie.Need-only-boxes-requires
+only-boxes-requires c κs = search needs
+
+unnamed-below-requires : tie.Need-unnamed-below-requires
+unnamed-below-requires c κs = search needs
+
+returns : tie.Need-returns
+unfolding jobMarksSound
+returns c = rw (c .before .only-boxes .ensures, c .unnamed-below .ensures)
+
+pub job-marks-sound-spec : {M : Type 1} → statement M
+job-marks-sound-spec = tie.close (tie.spec only-boxes-requires unnamed-below-requires returns)

@@ -1,0 +1,136 @@
+// Whether what a cut forgets is sound: kept ACCEPTs, marks and the vote. The tests stand in specs/Sound.antt of boxes.
+ghost use mathlib.Core.Path.{_≡_};
+ghost use Prim.Native.Nat.{ℕ, _<_, _≤_};
+ghost use Rattle.records.specs.Rec.{newleader-ack, carried};
+ghost use Rattle.boxes.specs.Sound.{paperOf, allKeptSound, allMarksSound, heldSound, unvoted, voteSound};
+ghost use Rattle.sound_volatiles.specs.Pairs.{pairSound, pairsBelow, pairsSound, unnamedBelow, jobMarksSound, marksBelow};
+use boxes::BoxState;
+use boxes::Vote;
+use house::Ballot;
+use house::BoxNo;
+use house::District;
+use house::Stamp;
+use plans::Plan;
+use records::Record;
+
+// an ACCEPT kept for a named district, or none
+fn pair_sound(plan: Plan, job: u8, d: District, b: Ballot, s: Stamp) -> bool
+    ensures { λ r. ⌜ r ≡ pairSound plan job d b s ⌝ }
+{
+    (house::is_no_ballot(b) & house::is_no_stamp(s))
+        | (plans::named(plan, job, d) & (plans::ballot_in(plan, d, b) & house::stamp_of(d, s)))
+}
+
+fn pairs_below(plan: Plan, ballots: [Ballot; 256], stamps: [Stamp; 256], job: u8) -> bool
+    requires { ⌜ job < 64 ⌝ }
+    ensures { λ r. ⌜ r ≡ pairsBelow plan ballots stamps job 4 ⌝ }
+{
+    let mut ok = true;
+    for d in 0..house::MOST_DISTRICTS {
+        let at = (job as usize) * 4 + d as usize;
+        let b = ballots[at];
+        let s = stamps[at];
+        ok = ok & pair_sound(plan, job, District(d), b, s);
+    }
+    ok
+}
+
+pub fn kept_sound(plan: Plan, x: BoxState) -> bool
+    ensures { λ r. ⌜ r ≡ allKeptSound plan x ⌝ }
+{
+    let v = x.volatile;
+    let ballots = v.kept_ballots;
+    let stamps = v.kept_stamps;
+    let mut ok = true;
+    for j in 0..house::MOST_JOBS {
+        ok = ok & pairs_below(plan, ballots, stamps, j);
+    }
+    ok
+}
+
+// no box of a district that the job does not name is marked
+fn unnamed_below(plan: Plan, job: u8, marks: u32) -> bool
+    ensures { λ r. ⌜ r ≡ unnamedBelow plan job marks (plan .districts) ⌝ }
+{
+    let n = plan.districts;
+    let mut ok = true;
+    for d in 0..n {
+        ok = ok
+            & (plans::named(plan, job, District(d))
+                | (marks::marks_in(plan, marks, District(d)) == 0));
+    }
+    ok
+}
+
+fn job_marks_sound(plan: Plan, job: u8, marks: u32) -> bool
+    ensures { λ r. ⌜ r ≡ jobMarksSound plan job marks ⌝ }
+{
+    marks::only_boxes(plan, marks) & unnamed_below(plan, job, marks)
+}
+
+pub fn marks_sound(plan: Plan, x: BoxState) -> bool
+    ensures { λ r. ⌜ r ≡ allMarksSound plan x ⌝ }
+{
+    let v = x.volatile;
+    let marks = v.marks;
+    let mut ok = true;
+    for j in 0..house::MOST_JOBS {
+        let at = j as usize;
+        ok = ok & job_marks_sound(plan, j, marks[at]);
+    }
+    ok
+}
+
+// the kind 6 record that held the vote
+fn paper_record(plan: Plan, x: BoxState) -> Record
+    ensures { λ r. ⌜ r ≡ carried (newleader-ack (x .volatile .vote .voter) (x .core .own) (paperOf plan x)) ⌝ }
+{
+    let c = x.core;
+    let v = x.volatile;
+    let vote = v.vote;
+    let voter = vote.voter;
+    let own = c.own;
+    let b = c.ballot;
+    let cb = vote.cballot;
+    let table = vote.table;
+    let home = plans::home_of(plan, voter);
+    let clock = Stamp {
+        time: vote.clock,
+        district: home,
+    };
+    let none = house::no_stamp();
+    let no_ballot = house::no_ballot();
+    let ballots = [b, cb, no_ballot, no_ballot];
+    let stamps = [clock, none];
+    Record {
+        kind: 6,
+        from: voter,
+        to: own,
+        job: house::NO_JOB,
+        ballots: ballots,
+        stamps: stamps,
+        table: table,
+    }
+}
+
+fn is_unvoted(vote: Vote) -> bool
+    ensures { λ r. ⌜ r ≡ unvoted vote ⌝ }
+{
+    let voter = vote.voter;
+    let cb = vote.cballot;
+    let table = vote.table;
+    ((voter.0 == 0) & house::is_no_ballot(cb)) & ((vote.clock == 0) & spares::spare_rows(table, 0))
+}
+
+pub fn vote_sound(plan: Plan, x: BoxState) -> bool
+    ensures { λ r. ⌜ r ≡ voteSound plan x ⌝ }
+{
+    let v = x.volatile;
+    let vote = v.vote;
+    if vote.held {
+        let r = paper_record(plan, x);
+        let table = vote.table;
+        return rules::obeys(plan, r) & spares::spare_rows(table, plan.jobs);
+    }
+    is_unvoted(vote)
+}

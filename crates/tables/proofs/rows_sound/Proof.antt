@@ -1,0 +1,56 @@
+-- `tables::rows_sound` meets its contract.
+use Prim.Native.Nat.{ℕ, _-_, _≤_}
+use mathlib.Core.Path.{_≡_, refl, ap, _∙_}
+use native.Mathlib.Omega.{arith}
+use lib.ListN.{getD}
+use Rattle.house.specs.Pairs.{noRow}
+use Rattle.laws.specs.Fold.{allBelow, all-step}
+use Rattle.records.specs.Rules.{rowSound, rowsSound}
+use borrow.Author.Needs.{needs}
+use Rattle.tables.proofs.rows_sound.Statement.{statement}
+use Rattle.tables.proofs.rows_sound.Tie as tie
+
+abbrev Inv-loop : tie.InvT-loop
+Inv-loop plan d table n ok₀ j₀ ok j = (j ≤ n) × (ok ≡ rowsSound plan d table j)
+
+abbrev μ-loop : tie.MeasureT-loop
+μ-loop plan d table n ok₀ j₀ ok j = n - j
+
+loop-holds : tie.Need-loop-holds Inv-loop μ-loop
+unfolding rowsSound allBelow
+loop-holds c = (search needs, refl)
+
+row-at-requires : tie.Need-row-at-requires Inv-loop μ-loop
+row-at-requires c κs = search needs
+
+row-sound-requires : tie.Need-row-sound-requires Inv-loop μ-loop
+row-sound-requires c κs = search needs
+
+add-j : tie.Need-add-j Inv-loop μ-loop
+add-j c = search needs
+
+loop-less : tie.Need-loop-less Inv-loop μ-loop
+loop-less c = search needs
+
+loop-again : tie.Need-loop-again Inv-loop μ-loop
+unfolding rowsSound
+loop-again c =
+    let a = c .before .before .before .before .args in let l = c .before .before .before .loop in
+    (omega arith, rw (l .inv .1, c .row-sound .ensures, c .before .row-at .ensures) (all-step (λ (j : ℕ). rowSound (a .plan) (a .d) j (getD (a .table) j noRow)) (l .j)))
+
+returns : tie.Need-returns Inv-loop μ-loop
+returns c = let a = c .before .before .args in let l = c .before .loop in let e : l .j ≡ a .n = omega arith in l .inv .1 ∙ ap (rowsSound (a .plan) (a .d) (a .table)) e
+
+pub rows-sound-spec : {M : Type 1} → statement M
+rows-sound-spec =
+    tie.close
+    (tie.spec
+    Inv-loop
+    μ-loop
+    loop-holds
+    row-at-requires
+    row-sound-requires
+    add-j
+    loop-less
+    loop-again
+    returns)
