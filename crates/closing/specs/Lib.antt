@@ -1,0 +1,2 @@
+-- The report at the end.
+pub mod Closing

@@ -1,0 +1,13 @@
+-- `drawing::with_districts` meets its contract.
+use borrow.Author.Needs.{needs}
+use Rattle.drawing.proofs.with_districts.Statement.{statement}
+use Rattle.drawing.proofs.with_districts.Tie as tie
+
+as-byte-requires : tie.Need-as-byte-requires
+as-byte-requires c κs = search needs
+
+returns : tie.Need-returns
+returns c = rw (c .as-byte .ensures)
+
+pub with-districts-spec : {M : Type 1} → statement M
+with-districts-spec = tie.close (tie.spec as-byte-requires returns)

@@ -1,0 +1,30 @@
+-- `endings::done_in` meets its contract.
+use mathlib.Core.Path.{_≡_}
+use Rattle.endings.specs.Endings.{doneIn}
+use Rattle.plans.specs.Plan.{sizeOf}
+use native.Mathlib.Omega.{arith}
+use borrow.Author.Needs.{needs}
+use Rattle.endings.proofs.done_in.Statement.{statement}
+use Rattle.endings.proofs.done_in.Tie as tie
+
+size-of-requires : tie.Need-size-of-requires
+size-of-requires c κs = search needs
+
+named-requires : tie.Need-named-requires
+named-requires c κs = search needs
+
+mul-listed-in : tie.Need-mul-listed-in
+unfolding sizeOf
+mul-listed-in c = let s : c .before .size-of .result ≡ 3 = c .before .size-of .ensures .0 in rw s (omega (arith, c .before .before .pre))
+
+listed-in-requires : tie.Need-listed-in-requires
+unfolding sizeOf
+listed-in-requires c κs = let s : c .before .size-of .result ≡ 3 = c .before .size-of .ensures .0 in rw s (omega (arith, c .before .before .pre))
+
+returns : tie.Need-returns
+unfolding doneIn
+returns c = rw (c .listed-in .ensures, c .before .named .ensures, c .before .before .size-of .ensures .0)
+
+pub done-in-spec : {M : Type 1} → statement M
+done-in-spec =
+    tie.close (tie.spec size-of-requires named-requires mul-listed-in listed-in-requires returns)
