@@ -12,25 +12,27 @@ use Rattle.laws.specs.Digits.{digit, part, withDigit}
 use Rattle.laws.specs.Lex.{larger, largest}
 use Rattle.laws.specs.Majority.{majority}
 use Rattle.house.specs.Limits.{noJob}
-use Rattle.house.specs.Pairs.{district, boxNo, stamp, ballot, noStamp, noBallot, noRow, stampLt, ballotLt, sameStamp, sameBallot, latestStamp}
+use Rattle.house.specs.Pairs.{district, boxNo, stamp, ballot, noStamp, noBallot, noRow, stampLt, ballotLt, sameStamp, sameBallot, latestStamp, isNoStamp, isNoBallot, timeFits, realStamp, realBallot, stampOf, ballotOf}
 use Rattle.house.specs.declared.Stamp.{Stamp}
 use Rattle.house.specs.declared.Ballot.{Ballot}
 use Rattle.house.specs.declared.Row.{Row}
-use Rattle.plans.specs.Plan.{sizeOf, quorumOf, isJob, maskOf, names}
+use Rattle.plans.specs.Plan.{sizeOf, quorumOf, isJob, maskOf, names, planSound, countsSound, masksSound, maskSound, isBox, boxesOf, homeOf, sameHome, ballotIn, noneOrIn, isDistrict}
 use Rattle.plans.specs.declared.Plan.{Plan}
-use Rattle.marks.specs.Marks.{noMarks, marked, marksIn, quorumIn, quorumBelow, quorumEach}
+use Rattle.marks.specs.Marks.{noMarks, hasMark, onlyBoxes, marked, marksIn, quorumIn, quorumBelow, quorumEach}
 use Rattle.records.specs.Format.{entry, orPlan, ballotsIn, stampsIn, rowsIn}
 use Rattle.records.specs.Fields.{ballots, stamps, rows}
 use Rattle.records.specs.Rec.{newleader, noRows, carried}
+use Rattle.records.specs.Rules.{rowSound, rowsSound, startRow, openRow, doneRow, bothStamps, isNoRow, spareRows, valid}
 use Rattle.records.specs.Bytes.{headBytes, ballotBytes, stampBytes, rowBytes, encode}
-use Rattle.boxes.specs.Box.{fresh, rowAt, sentAt, putTable, putMode}
+use Rattle.boxes.specs.Box.{fresh, freshVolatile, rowAt, sentAt, keptAt, keptBallot, keptStamp, marksAt, listedAt, lastStamp, putTable, putMode}
+use Rattle.boxes.specs.Sound.{sound, boxSound, rangeSound, ballotsSound, tableSound, sentSound, keptSound, jobKeptSound, allKeptSound, marksSound, allMarksSound, listedSound, unlisted, listSound, paperOf, heldSound, unvoted, voteSound}
 use Rattle.boxes.specs.Ready.{isOpen, openAbove, ready, better, nextBelow, nextReady}
 use Rattle.boxes.specs.Multicast.{raised}
 use Rattle.boxes.specs.Leaders.{topBallot, voteRow, committedAt, acceptedAt, firstRow, mergedRow}
 use Rattle.boxes.specs.Orders.{nextBallot}
 use Rattle.boxes.specs.declared.BoxState.{BoxState}
 use Rattle.boxes.specs.declared.Vote.{Vote}
-use Rattle.boxes.specs.declared.Status.the-variants.{Leader}
+use Rattle.boxes.specs.declared.Status.the-variants.{Follower}
 
 -- two districts and two jobs, each for both
 abbrev pub night : Plan
@@ -54,9 +56,13 @@ holding r s = putTable (fresh (boxNo 0)) 4 (set (set noRows 0 r) 1 s)
 abbrev pub voting : ℕ → Ballot → Row → Vote
 voting p b r = record { held = true; voter = boxNo p; cballot = b; clock = 4; table = set noRows 0 r }
 
--- box 0 with ballot b
+-- two rows are the same: phase and both stamps
+abbrev pub sameRow : Row → Row → Bool
+sameRow r s = eqb (r .phase) (s .phase) && (sameStamp (r .local) (s .local) && sameStamp (r .global) (s .global))
+
+-- box 0, a follower in ballot b
 abbrev pub balloted : Ballot → BoxState
-balloted b = putMode (fresh (boxNo 0)) Leader b b
+balloted b = putMode (fresh (boxNo 0)) Follower b b
 
 abbrev pub sameBytes : List ℕ → List ℕ → Bool
 sameBytes [] [] = true
@@ -85,11 +91,11 @@ examples =
     -- 9 the other at (4,0): ready
     ∷ eqb (nextReady night (holding (committed (stamp 3 0)) (accepted (stamp 4 0)))) 0
     -- 10 votes: cballot (1,0) accepted, (2,1) start: merges to start
-    ∷ eqb (mergedRow (voting 0 (ballot 1 0) (accepted (stamp 1 0)) ∷ voting 1 (ballot 2 1) noRow ∷ []) 0 .phase) 0
+    ∷ sameRow (mergedRow (voting 0 (ballot 1 0) (accepted (stamp 1 0)) ∷ voting 1 (ballot 2 1) noRow ∷ []) 0) noRow
     -- 11 the first committed instead: committed
-    ∷ eqb (mergedRow (voting 0 (ballot 1 0) (committed (stamp 1 0)) ∷ voting 1 (ballot 2 1) noRow ∷ []) 0 .phase) 3
-    -- 12 stand at box 0 from (1,2): (2,0)
-    ∷ sameBallot (nextBallot (balloted (ballot 1 2))) (ballot 2 0)
+    ∷ sameRow (mergedRow (voting 0 (ballot 1 0) (committed (stamp 1 0)) ∷ voting 1 (ballot 2 1) noRow ∷ []) 0) (committed (stamp 1 0))
+    -- 12 stand at box 0, which is sound, from (1,2): (2,0)
+    ∷ (sound night (balloted (ballot 1 2)) && sameBallot (nextBallot (balloted (ballot 1 2))) (ballot 2 0))
     -- 13 largest of (1,0), (3,1), (2,2): (3,1)
     ∷ sameStamp (latestStamp (stamp 1 0 ∷ stamp 3 1 ∷ stamp 2 2 ∷ [])) (stamp 3 1)
     -- 14 NEWLEADER (1,0) from 0 to 1: 04 05 00 01 FF 01 00 01 00 00 00
@@ -97,5 +103,5 @@ examples =
     ∷ []
 
 pub all-examples : examples ≡ replicate 14 true
-unfolding examples stampLt ballotLt sameStamp sameBallot larger largest pick allBelow digit part withDigit majority ones sizeOf quorumOf isJob maskOf names marked marksIn quorumIn quorumBelow quorumEach entry orPlan ballotsIn stampsIn rowsIn ballots stamps rows carried headBytes ballotBytes stampBytes rowBytes encode fresh rowAt sentAt isOpen openAbove ready better nextBelow raised topBallot voteRow committedAt acceptedAt firstRow mergedRow nextBallot
+unfolding examples stampLt ballotLt sameStamp sameBallot larger largest pick allBelow digit part withDigit majority ones sizeOf quorumOf isJob maskOf names marked marksIn quorumIn quorumBelow quorumEach entry orPlan ballotsIn stampsIn rowsIn ballots stamps rows carried headBytes ballotBytes stampBytes rowBytes encode fresh rowAt sentAt isOpen openAbove ready better nextBelow raised topBallot voteRow committedAt acceptedAt firstRow mergedRow nextBallot sound boxSound rangeSound ballotsSound tableSound sentSound keptSound jobKeptSound allKeptSound marksSound allMarksSound listedSound unlisted listSound paperOf heldSound unvoted voteSound rowSound rowsSound startRow openRow doneRow bothStamps isNoRow spareRows valid planSound countsSound masksSound maskSound isBox boxesOf homeOf sameHome ballotIn noneOrIn isDistrict isNoStamp isNoBallot timeFits realStamp realBallot stampOf ballotOf keptAt keptBallot keptStamp marksAt freshVolatile listedAt lastStamp hasMark onlyBoxes
 all-examples = refl

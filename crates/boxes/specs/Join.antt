@@ -11,7 +11,7 @@ use Rattle.house.specs.declared.BoxNo.{BoxNo}
 use Rattle.plans.specs.Plan.{homeOf, names}
 use Rattle.plans.specs.declared.Plan.{Plan}
 use Rattle.marks.specs.Marks.{hasMark, marked}
-use Rattle.records.specs.Answers.{orNo}
+use Rattle.records.specs.Answers.{notNamed, wrongStatus, wrongBallot, alreadyDone, atLimit, orNo}
 use Rattle.records.specs.Rec.{Proposal, Handout, Ballotpaper, NewState, newstate-ack}
 use Rattle.records.specs.declared.Answer.{Answer}
 use Rattle.records.specs.declared.Answer.the-variants.{Done, No}
@@ -26,7 +26,7 @@ use Rattle.boxes.specs.declared.Delivery.the-variants.{Nothing, Job}
 
 -- the first of the tests 6 to 10 that fails
 abbrev pub inOrder : Bool → Bool → Bool → Bool → Bool → Answer
-inOrder a b c d e = orNo a 6 (orNo b 7 (orNo c 8 (orNo d 9 (orNo e 10 Done))))
+inOrder a b c d e = orNo a notNamed (orNo b wrongStatus (orNo c wrongBallot (orNo d alreadyDone (orNo e atLimit Done))))
 
 -- a step under an answer
 abbrev pub under : Answer → Out → Out
@@ -34,7 +34,7 @@ under Done o = o
 under (No n) o = refused n
 
 -- guards one in another are the first that fails
-pub in-order : (a b c d e : Bool) (o : Out) → guard a 6 (guard b 7 (guard c 8 (guard d 9 (guard e 10 o)))) ≡ under (inOrder a b c d e) o
+pub in-order : (a b c d e : Bool) (o : Out) → guard a notNamed (guard b wrongStatus (guard c wrongBallot (guard d alreadyDone (guard e atLimit o)))) ≡ under (inOrder a b c d e) o
 unfolding guard
 in-order true true true true true o = refl
 in-order true true true true false o = refl

@@ -14,6 +14,7 @@ use Rattle.house.specs.declared.BoxNo.{BoxNo}
 use Rattle.house.specs.declared.Row.{Row}
 use Rattle.plans.specs.Plan.{quorumOf}
 use Rattle.plans.specs.declared.Plan.{Plan}
+use Rattle.records.specs.Answers.{wrongStatus, wrongBallot, alreadyDone}
 use Rattle.records.specs.Rec.{Rec, Ballotpaper, NewState, newleader-ack, new-state, newstate-ack, noRows}
 use Rattle.boxes.specs.Box.{isRecovering, ownOf, homeIn, noVote, putMode, putTable, putSent, putVote}
 use Rattle.boxes.specs.Out.{Out, does, guard, toOthers}
@@ -41,7 +42,7 @@ voteFor P x to b = newleader-ack (ownOf x) to (record { ballot = b; cballot = x 
 unfoldable pub onNewleader : Plan → BoxState → BoxNo → Ballot → Out
 onNewleader P x from b =
     -- any status; ballot above own ballot (line 38)
-    guard (ballotLt (x .core .ballot) b) 8
+    guard (ballotLt (x .core .ballot) b) wrongBallot
     (does (joined x b) (voteFor P x from b ∷ []) Nothing)
 
 -- ---- 6 NEWLEADER_ACK (lines 42-56)
@@ -114,10 +115,10 @@ votedBy x from = x .volatile .vote .held && eqb (x .volatile .vote .voter .0) (f
 unfoldable pub onNewleaderAck : Plan → BoxState → BoxNo → Ballotpaper → Out
 onNewleaderAck P x from y =
     -- recovering, ballot equal (line 43)
-    guard (isRecovering (x .core .status)) 7
-    (guard (sameBallot (y .ballot) (x .core .ballot)) 8
+    guard (isRecovering (x .core .status)) wrongStatus
+    (guard (sameBallot (y .ballot) (x .core .ballot)) wrongBallot
     -- merged already, or the same voter (H)
-    (guard (not (sameBallot (x .core .cballot) (x .core .ballot)) && not (votedBy x from)) 9
+    (guard (not (sameBallot (x .core .cballot) (x .core .ballot)) && not (votedBy x from)) alreadyDone
     (whenVoted P x (voteOf from y))))
 
 -- ---- 7 NEW_STATE (lines 57-62)
@@ -129,8 +130,8 @@ followed x y = putMode (putTable x (y .clock .time) (y .table)) Follower (x .cor
 unfoldable pub onNewState : BoxState → BoxNo → NewState → Out
 onNewState x from y =
     -- recovering, ballot equal (line 58)
-    guard (isRecovering (x .core .status)) 7
-    (guard (sameBallot (y .ballot) (x .core .ballot)) 8
+    guard (isRecovering (x .core .status)) wrongStatus
+    (guard (sameBallot (y .ballot) (x .core .ballot)) wrongBallot
     -- send 8 (line 62)
     (does (followed x y) (newstate-ack (ownOf x) from (y .ballot) ∷ []) Nothing))
 
@@ -143,7 +144,7 @@ leading x = putMode x Leader (x .core .ballot) (x .core .cballot)
 unfoldable pub onNewstateAck : Plan → BoxState → Ballot → Out
 onNewstateAck P x b =
     -- recovering, ballot and cballot equal (lines 63-64)
-    guard (isRecovering (x .core .status)) 7
-    (guard (sameBallot b (x .core .ballot) && sameBallot b (x .core .cballot)) 8
+    guard (isRecovering (x .core .status)) wrongStatus
+    (guard (sameBallot b (x .core .ballot) && sameBallot b (x .core .cballot)) wrongBallot
     -- ready jobs go out (lines 66-68)
     (handing (handOut P (leading x))))

@@ -8,4 +8,5 @@ pub mod Leaders
 pub mod Orders
 pub mod Join
 pub mod Step
+pub mod Promise
 pub mod Examples

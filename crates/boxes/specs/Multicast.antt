@@ -16,6 +16,7 @@ use Rattle.house.specs.declared.Row.{Row}
 use Rattle.plans.specs.Plan.{homeOf, names}
 use Rattle.plans.specs.declared.Plan.{Plan}
 use Rattle.marks.specs.Marks.{noMarks, hasMark, marked, quorumEach}
+use Rattle.records.specs.Answers.{notNamed, wrongStatus, wrongBallot, alreadyDone, atLimit}
 use Rattle.records.specs.Rec.{Rec, Proposal, Handout, accept, accept-ack}
 use Rattle.boxes.specs.Box.{isLeader, isRecovering, ownOf, homeIn, rowAt, keptBallot, keptStamp, marksAt, lastStamp, onList, putRow, putListed, putKept, putMarks}
 use Rattle.boxes.specs.Out.{Out, does, guard, toEach, toNamed}
@@ -38,11 +39,11 @@ accepts P x j = toNamed P j (λ to. accept (ownOf x) to j (record { ballot = x .
 
 unfoldable pub onMulticast : Plan → BoxState → ℕ → Out
 onMulticast P x j =
-    guard (names P j (homeIn P x)) 6
+    guard (names P j (homeIn P x)) notNamed
     -- leader only (line 4)
-    (guard (isLeader (x .core .status)) 7
+    (guard (isLeader (x .core .status)) wrongStatus
     -- a new stamp needs room on the clock
-    (guard (not (eqb (rowAt x j .phase) 0) || ltb (x .core .clock) mostTime) 10
+    (guard (not (eqb (rowAt x j .phase) 0) || ltb (x .core .clock) mostTime) atLimit
     (does (proposed P x j) (accepts P (proposed P x j) j) Nothing)))
 
 -- ---- 2 ACCEPT (lines 10-16)
@@ -105,10 +106,10 @@ whenKept P x j = pick (allKept P x j) (does (accepted P x j) (acks P (accepted P
 
 unfoldable pub onAccept : Plan → BoxState → BoxNo → ℕ → Proposal → Out
 onAccept P x from j y =
-    guard (names P j (homeIn P x)) 6
+    guard (names P j (homeIn P x)) notNamed
     -- recovering: 7 (line 11)
-    (guard (not (isRecovering (x .core .status))) 7
-    (guard (ballotFits P x j (homeOf P from) y && stampFits x j (homeOf P from) y) 8
+    (guard (not (isRecovering (x .core .status))) wrongStatus
+    (guard (ballotFits P x j (homeOf P from) y && stampFits x j (homeOf P from) y) wrongBallot
     (whenKept P (kept x j (homeOf P from) y) j)))
 
 -- ---- 3 ACCEPT_ACK (lines 17-23)
@@ -138,12 +139,12 @@ whenMarked P x j = pick (enough P x j) (handing (handOut P (committed P x j))) (
 
 unfoldable pub onAcceptAck : Plan → BoxState → BoxNo → ℕ → List Ballot → Out
 onAcceptAck P x from j bs =
-    guard (names P j (homeIn P x)) 6
+    guard (names P j (homeIn P x)) notNamed
     -- leader only (line 18)
-    (guard (isLeader (x .core .status)) 7
-    (guard (agree P x j bs) 8
+    (guard (isLeader (x .core .status)) wrongStatus
+    (guard (agree P x j bs) wrongBallot
     -- phase 3 or already marked
-    (guard (not (eqb (rowAt x j .phase) 3) && not (hasMark (marksAt x j) from)) 9
+    (guard (not (eqb (rowAt x j .phase) 3) && not (hasMark (marksAt x j) from)) alreadyDone
     (whenMarked P (putMarks x j (marked (marksAt x j) from)) j))))
 
 -- ---- 4 DELIVER (lines 24-31)
@@ -155,10 +156,10 @@ delivered x j y =
 
 unfoldable pub onDeliver : Plan → BoxState → ℕ → Handout → Out
 onDeliver P x j y =
-    guard (names P j (homeIn P x)) 6
+    guard (names P j (homeIn P x)) notNamed
     -- not recovering, ballot is cballot (line 25)
-    (guard (not (isRecovering (x .core .status))) 7
-    (guard (sameBallot (y .ballot) (x .core .cballot)) 8
+    (guard (not (isRecovering (x .core .status))) wrongStatus
+    (guard (sameBallot (y .ballot) (x .core .cballot)) wrongBallot
     -- stamp above the last delivered and job not on the list
-    (guard (stampLt (lastStamp x) (y .global) && not (onList x j)) 9
+    (guard (stampLt (lastStamp x) (y .global) && not (onList x j)) alreadyDone
     (does (delivered x j y) [] (Job j)))))

@@ -8,6 +8,7 @@ use Rattle.house.specs.declared.Ballot.{Ballot}
 use Rattle.house.specs.declared.BoxNo.{BoxNo}
 use Rattle.plans.specs.Plan.{officeOf, isJob, names, planSound}
 use Rattle.plans.specs.declared.Plan.{Plan}
+use Rattle.records.specs.Answers.{notNamed, alreadyDone, atLimit}
 use Rattle.records.specs.Rec.{Rec, multicast, newleader}
 use Rattle.boxes.specs.Box.{ownOf, homeIn, rowAt, freshVolatile}
 use Rattle.boxes.specs.Sound.{sound}
@@ -26,9 +27,9 @@ retries P x j = toNamed P j (λ to. multicast (ownOf x) to j)
 
 unfoldable pub retry : Plan → BoxState → ℕ → Out
 retry P x j =
-    guard (names P j (homeIn P x)) 6
+    guard (names P j (homeIn P x)) notNamed
     -- phase 0 or 3: 9
-    (guard (isOpen x j) 9
+    (guard (isOpen x j) alreadyDone
     (does x (retries P x j) Nothing))
 
 -- (ballot number + 1, own)
@@ -38,7 +39,7 @@ nextBallot x = record { number = x .core .ballot .number + 1; owner = ownOf x }
 -- stand sends kind 5 with the next ballot to the district (lines 35-36)
 unfoldable pub stand : Plan → BoxState → Out
 stand P x =
-    guard (ltb (x .core .ballot .number) mostNumber) 10
+    guard (ltb (x .core .ballot .number) mostNumber) atLimit
     (does x (toHome P x (λ to. newleader (ownOf x) to (nextBallot x))) Nothing)
 
 -- cut forgets the volatile part only (H)

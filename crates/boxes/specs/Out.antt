@@ -28,6 +28,11 @@ unfoldable pub guard : Bool → ℕ → Out → Out
 guard true n o = o
 guard false n o = refused n
 
+-- the job that a delivery names, or none
+abbrev pub jobsIn : Delivery → List ℕ
+jobsIn Nothing = []
+jobsIn (Job j) = j ∷ []
+
 -- the records of a step; a refusal sends none
 abbrev pub recordsOf : Out → List Rec
 recordsOf (refused n) = []

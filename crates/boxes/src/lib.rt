@@ -94,19 +94,19 @@ pub fn in_order(named: bool, status: bool, ballot: bool, undone: bool, room: boo
     ensures { λ r. ⌜ r ≡ inOrder named status ballot undone room ⌝ }
 {
     if named {} else {
-        return Answer::No(6);
+        return Answer::No(records::NOT_NAMED);
     }
     if status {} else {
-        return Answer::No(7);
+        return Answer::No(records::WRONG_STATUS);
     }
     if ballot {} else {
-        return Answer::No(8);
+        return Answer::No(records::WRONG_BALLOT);
     }
     if undone {} else {
-        return Answer::No(9);
+        return Answer::No(records::ALREADY_DONE);
     }
     if room {} else {
-        return Answer::No(10);
+        return Answer::No(records::AT_LIMIT);
     }
     Answer::Done
 }

@@ -1,3 +1,3 @@
--- The face of a box: each order's tests 1 and 2, and that no second answer fits its promise.
+-- The face of a box: its promises, and each order's tests 1 and 2 as the code goes through them.
+pub mod Promises
 pub mod Face
-pub mod Only

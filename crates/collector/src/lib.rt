@@ -1,5 +1,5 @@
-// The public face of a box: fresh, receive, post, retry, stand, cut. Each answers for every input. What each means stands in
-// specs/Step.antt of the crate boxes.
+// The public face of a box: fresh, receive, post, retry, stand, cut. Each answers for every input: its promise stands in
+// specs/Promises.antt, what it does in specs/Step.antt of the crate boxes.
 ghost use mathlib.Core.Path.{_≡_};
 ghost use mathlib.Core.Bool.{true};
 ghost use mathlib.Core.List.{List};
@@ -9,14 +9,14 @@ ghost use Rattle.laws.specs.Tray.{onto};
 ghost use Rattle.house.specs.Limits.{leastTray};
 ghost use Rattle.records.specs.Bytes.{encodeAll};
 ghost use Rattle.records.specs.Rules.{valid};
-ghost use Rattle.boxes.specs.Box.{fresh};
 ghost use Rattle.boxes.specs.Sound.{sound};
 ghost use Rattle.boxes.specs.Out.{resultOf, recordsOf};
 ghost use Rattle.boxes.specs.Orders.{retry, stand};
-ghost use Rattle.boxes.specs.Step.{receives, mayPost, retried, stood, cutOff};
+ghost use Rattle.boxes.specs.Step.{mayPost};
 ghost use Rattle.keeps.specs.Sends.{Sized};
 ghost use Rattle.keeps.specs.Sound.{Lengths};
-ghost use Rattle.collector.specs.Face.{admission, taken, postedRecords};
+ghost use Rattle.collector.specs.Face.{admission, taken};
+ghost use Rattle.collector.specs.Promises.{BoxFresh, BytesReceived, JobRetried, BoxStood, BoxCut, JobPosted};
 use boxes::BoxState;
 use boxes::Delivery;
 use boxes::Outcome;
@@ -34,7 +34,7 @@ pub struct Posted {
 
 // follower, clock 0, everything else none
 pub fn fresh_box(own: BoxNo) -> BoxState
-    ensures { λ x. ⌜ x ≡ fresh own ⌝ }
+    ensures { λ x. ⌜ BoxFresh own x ⌝ }
 {
     boxes::fresh_box(own)
 }
@@ -44,10 +44,10 @@ fn admit(plan: Plan, x: BoxState, room: usize) -> Answer
     ensures { λ a. ⌜ (a ≡ admission plan x room) × Lengths x ⌝ }
 {
     if sound_boxes::is_sound(plan, x) {} else {
-        return Answer::No(1);
+        return Answer::No(records::NOT_SOUND);
     }
     if house::LEAST_TRAY <= room {} else {
-        return Answer::No(2);
+        return Answer::No(records::SMALL_TRAY);
     }
     Answer::Done
 }
@@ -64,7 +64,7 @@ fn take_record(plan: Plan, x: BoxState, r: Record, tray: &mut [u8]) -> Outcome
         return acting::act(plan, x, r, tray);
     }
     Outcome {
-        answer: Answer::No(5),
+        answer: Answer::No(records::OTHER_BOX),
         used: 0,
         records: 0,
         state: x,
@@ -74,7 +74,7 @@ fn take_record(plan: Plan, x: BoxState, r: Record, tray: &mut [u8]) -> Outcome
 
 // a record's bytes from outside
 pub fn receive(plan: Plan, x: BoxState, bytes: &[u8], tray: &mut [u8]) -> Outcome
-    ensures { λ o. ⌜ (o ≡ resultOf plan x (receives plan x (length (now (tray .entry))) (now (bytes .entry)))) × (now (tray .exit) ≡ onto (encodeAll plan (recordsOf (receives plan x (length (now (tray .entry))) (now (bytes .entry))))) (now (tray .entry))) ⌝ }
+    ensures { λ o. ⌜ BytesReceived plan x (now (bytes .entry)) (now (tray .entry)) o (now (tray .exit)) ⌝ }
 {
     let first = admit(plan, x, tray.len());
     match first {
@@ -134,7 +134,7 @@ fn retry_now(plan: Plan, x: BoxState, job: u8, tray: &mut [u8]) -> Outcome
 
 // a box sends the job's MULTICAST again
 pub fn retry_job(plan: Plan, x: BoxState, job: u8, tray: &mut [u8]) -> Outcome
-    ensures { λ o. ⌜ (o ≡ resultOf plan x (retried plan x job (length (now (tray .entry))))) × (now (tray .exit) ≡ onto (encodeAll plan (recordsOf (retried plan x job (length (now (tray .entry)))))) (now (tray .entry))) ⌝ }
+    ensures { λ o. ⌜ JobRetried plan x job (now (tray .entry)) o (now (tray .exit)) ⌝ }
 {
     let first = admit(plan, x, tray.len());
     match first {
@@ -180,7 +180,7 @@ fn stand_now(plan: Plan, x: BoxState, tray: &mut [u8]) -> Outcome
 
 // a box stands for leader of its district
 pub fn stand_up(plan: Plan, x: BoxState, tray: &mut [u8]) -> Outcome
-    ensures { λ o. ⌜ (o ≡ resultOf plan x (stood plan x (length (now (tray .entry))))) × (now (tray .exit) ≡ onto (encodeAll plan (recordsOf (stood plan x (length (now (tray .entry)))))) (now (tray .entry))) ⌝ }
+    ensures { λ o. ⌜ BoxStood plan x (now (tray .entry)) o (now (tray .exit)) ⌝ }
 {
     let first = admit(plan, x, tray.len());
     match first {
@@ -197,7 +197,7 @@ pub fn stand_up(plan: Plan, x: BoxState, tray: &mut [u8]) -> Outcome
 
 // a box loses power: it forgets its volatile part
 pub fn cut_off(plan: Plan, x: BoxState) -> Outcome
-    ensures { λ o. ⌜ o ≡ resultOf plan x (cutOff plan x) ⌝ }
+    ensures { λ o. ⌜ BoxCut plan x o ⌝ }
 {
     if sound_boxes::is_sound(plan, x) {
         let y = boxes::cut_box(x);
@@ -210,7 +210,7 @@ pub fn cut_off(plan: Plan, x: BoxState) -> Outcome
         };
     }
     Outcome {
-        answer: Answer::No(1),
+        answer: Answer::No(records::NOT_SOUND),
         used: 0,
         records: 0,
         state: x,
@@ -222,20 +222,20 @@ fn may_post(plan: Plan, job: u8, room: usize) -> Answer
     ensures { λ a. ⌜ a ≡ mayPost plan job room ⌝ }
 {
     if sound_plans::plan_sound(plan) {} else {
-        return Answer::No(1);
+        return Answer::No(records::NOT_SOUND);
     }
     if house::LEAST_TRAY <= room {} else {
-        return Answer::No(2);
+        return Answer::No(records::SMALL_TRAY);
     }
     if plans::is_job(plan, job) {} else {
-        return Answer::No(6);
+        return Answer::No(records::NOT_NAMED);
     }
     Answer::Done
 }
 
 // the office posts a job
 pub fn post_job(plan: Plan, job: u8, tray: &mut [u8]) -> Posted
-    ensures { λ p. ⌜ (p ≡ record { answer = mayPost plan job (length (now (tray .entry))); used = length (encodeAll plan (postedRecords plan job (mayPost plan job (length (now (tray .entry)))))); records = length (postedRecords plan job (mayPost plan job (length (now (tray .entry))))) }) × (now (tray .exit) ≡ onto (encodeAll plan (postedRecords plan job (mayPost plan job (length (now (tray .entry)))))) (now (tray .entry))) ⌝ }
+    ensures { λ p. ⌜ JobPosted plan job (now (tray .entry)) p (now (tray .exit)) ⌝ }
 {
     let answer = may_post(plan, job, tray.len());
     match answer {

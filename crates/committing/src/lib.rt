@@ -2,9 +2,7 @@
 ghost use mathlib.Core.Path.{_≡_};
 ghost use mathlib.Core.Bool.{true, not, _&&_};
 ghost use Prim.Native.Nat.{_<_};
-ghost use lib.ListN.{getD};
 ghost use lib.Dec.{eqb};
-ghost use Rattle.house.specs.Pairs.{noBallot};
 ghost use Rattle.plans.specs.Plan.{names};
 ghost use Rattle.marks.specs.Marks.{hasMark, marked};
 ghost use Rattle.boxes.specs.Box.{isLeader, homeIn, rowAt, marksAt, putMarks};
@@ -18,24 +16,13 @@ use house::Row;
 use plans::Plan;
 use records::Answer;
 
-// the ballot of a district, none beyond the last
-pub fn ballot_at(ballots: [Ballot; 4], d: District) -> Ballot
-    ensures { λ r. ⌜ r ≡ getD ballots (d .0) noBallot ⌝ }
-{
-    if house::MOST_DISTRICTS <= d.0 {
-        return house::no_ballot();
-    }
-    let at = d.0 as usize;
-    ballots[at]
-}
-
 // 3 ACCEPT_ACK: the ballot of each of the first n districts that the job names equals the kept one
 pub fn agree_below(plan: Plan, x: BoxState, job: u8, ballots: [Ballot; 4], n: u8) -> bool
     ensures { λ r. ⌜ r ≡ agreeBelow plan x job ballots n ⌝ }
 {
     let mut ok = true;
     for d in 0..n {
-        let b = ballot_at(ballots, District(d));
+        let b = parties::ballot_at(ballots, District(d));
         let old = looking::kept_ballot(x, job, District(d));
         ok = ok & (!plans::named(plan, job, District(d)) | house::same_ballot(b, old));
     }
@@ -49,7 +36,7 @@ pub fn all_agree(plan: Plan, x: BoxState, job: u8, ballots: [Ballot; 4]) -> bool
     let c = x.core;
     let cb = c.cballot;
     let home = looking::home_in(plan, x);
-    let own = ballot_at(ballots, home);
+    let own = parties::ballot_at(ballots, home);
     agree_below(plan, x, job, ballots, plan.districts) & house::same_ballot(own, cb)
 }
 

@@ -62,11 +62,11 @@ pub fn deliver_record(x: BoxState, to: BoxNo, job: u8) -> Record
 }
 
 // the ballot kept for a named district, none for another
-pub fn kept_for(plan: Plan, x: BoxState, job: u8, d: u8) -> Ballot
-    ensures { λ r. ⌜ r ≡ keptFor plan x job d ⌝ }
+pub fn kept_for(plan: Plan, x: BoxState, job: u8, d: District) -> Ballot
+    ensures { λ r. ⌜ r ≡ keptFor plan x job (d .0) ⌝ }
 {
-    if plans::named(plan, job, District(d)) {
-        return looking::kept_ballot(x, job, District(d));
+    if plans::named(plan, job, d) {
+        return looking::kept_ballot(x, job, d);
     }
     house::no_ballot()
 }
@@ -74,10 +74,10 @@ pub fn kept_for(plan: Plan, x: BoxState, job: u8, d: u8) -> Ballot
 pub fn kept_vector(plan: Plan, x: BoxState, job: u8) -> [Ballot; 4]
     ensures { λ r. ⌜ r ≡ keptVector plan x job ⌝ }
 {
-    let b0 = kept_for(plan, x, job, 0);
-    let b1 = kept_for(plan, x, job, 1);
-    let b2 = kept_for(plan, x, job, 2);
-    let b3 = kept_for(plan, x, job, 3);
+    let b0 = kept_for(plan, x, job, District(0));
+    let b1 = kept_for(plan, x, job, District(1));
+    let b2 = kept_for(plan, x, job, District(2));
+    let b3 = kept_for(plan, x, job, District(3));
     [b0, b1, b2, b3]
 }
 

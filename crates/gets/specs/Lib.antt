@@ -1,2 +1,3 @@
--- Laws of reading a section element by element.
+-- Section 1, and laws of reading a section element by element.
+pub mod Head
 pub mod Turns

@@ -1,4 +1,5 @@
-// Readers of a record's parts: a ballot, a stamp, a row, and the elements of each section. What is read stands in records/specs/Fields.antt.
+// Readers of a record's parts: one for each section, and of a ballot, a stamp, a row. What is read stands in records/specs/Fields.antt
+// and, for section 1, in specs/Head.antt.
 ghost use mathlib.Core.Path.{_≡_};
 ghost use mathlib.Core.List.{_++_};
 ghost use Prim.Native.Nat.{ℕ, _+_, _*_, _-_, _≤_};
@@ -6,11 +7,33 @@ ghost use lib.ListN.{length, replicate};
 ghost use Rattle.laws.specs.Codec.{decRow};
 ghost use Rattle.house.specs.Pairs.{noStamp, noBallot, noRow};
 ghost use Rattle.records.specs.Fields.{ballotAt, stampAt, rowAt, ballots, stamps, rows};
+ghost use Rattle.gets.specs.Head.{headAt};
 use house::Ballot;
 use house::BoxNo;
 use house::District;
 use house::Row;
 use house::Stamp;
+
+// what section 1 holds
+pub struct Head {
+    pub kind: u8,
+    pub from: BoxNo,
+    pub to: BoxNo,
+    pub job: u8,
+}
+
+// section 1: kind, from, to, job
+pub fn read_head(s: &[u8]) -> Head
+    requires { ⌜ 4 ≤ length (now s) ⌝ }
+    ensures { λ r. ⌜ r ≡ headAt (now (s .entry)) ⌝ }
+{
+    Head {
+        kind: s[0],
+        from: BoxNo(s[1]),
+        to: BoxNo(s[2]),
+        job: s[3],
+    }
+}
 
 // two bytes, big end first
 fn be16(a: u8, b: u8) -> u16
@@ -59,7 +82,7 @@ fn read_row(s: &[u8]) -> Row
     }
 }
 
-// n ballots from the front, and none behind them
+// section 2: n ballots from the front, and none behind them
 pub fn read_ballots(s: &[u8], n: u8) -> [Ballot; 4]
     requires { ⌜ (n ≤ 4) × (n * 3 ≤ length (now s)) ⌝ }
     ensures { λ r. ⌜ r ≡ decRow ballots n (now (s .entry)) ++ replicate (4 - n) noBallot ⌝ }
@@ -78,6 +101,7 @@ pub fn read_ballots(s: &[u8], n: u8) -> [Ballot; 4]
     out
 }
 
+// section 3: n stamps
 pub fn read_stamps(s: &[u8], n: u8) -> [Stamp; 2]
     requires { ⌜ (n ≤ 2) × (n * 5 ≤ length (now s)) ⌝ }
     ensures { λ r. ⌜ r ≡ decRow stamps n (now (s .entry)) ++ replicate (2 - n) noStamp ⌝ }
@@ -96,6 +120,7 @@ pub fn read_stamps(s: &[u8], n: u8) -> [Stamp; 2]
     out
 }
 
+// section 4: n rows of the table
 pub fn read_rows(s: &[u8], n: u8) -> [Row; 64]
     requires { ⌜ (n ≤ 64) × (n * 11 ≤ length (now s)) ⌝ }
     ensures { λ r. ⌜ r ≡ decRow rows n (now (s .entry)) ++ replicate (64 - n) noRow ⌝ }

@@ -17,4 +17,3 @@ pub mod KeptStamps
 pub mod Jobs
 pub mod Structs
 pub mod Steps
-pub mod Lively

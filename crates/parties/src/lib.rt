@@ -28,24 +28,24 @@ pub fn are_others(plan: Plan, from: BoxNo, to: BoxNo) -> bool
     are_neighbours(plan, from, to) & !(from.0 == to.0)
 }
 
-// ballot d, none behind the last
-pub fn ballot_at(ballots: [Ballot; 4], d: u8) -> Ballot
-    ensures { λ r. ⌜ r ≡ getD ballots d noBallot ⌝ }
+// the ballot of a district, none behind the last
+pub fn ballot_at(ballots: [Ballot; 4], d: District) -> Ballot
+    ensures { λ r. ⌜ r ≡ getD ballots (d .0) noBallot ⌝ }
 {
-    if house::MOST_DISTRICTS <= d {
+    if house::MOST_DISTRICTS <= d.0 {
         return house::no_ballot();
     }
-    let at = d as usize;
+    let at = d.0 as usize;
     ballots[at]
 }
 
 // of a box of district d if the job names it, none if not
-pub fn ballot_for(plan: Plan, job: u8, ballots: [Ballot; 4], d: u8) -> bool
-    ensures { λ r. ⌜ r ≡ ballotFor plan job ballots d ⌝ }
+pub fn ballot_for(plan: Plan, job: u8, ballots: [Ballot; 4], d: District) -> bool
+    ensures { λ r. ⌜ r ≡ ballotFor plan job ballots (d .0) ⌝ }
 {
     let b = ballot_at(ballots, d);
-    if plans::named(plan, job, District(d)) {
-        return plans::ballot_in(plan, District(d), b);
+    if plans::named(plan, job, d) {
+        return plans::ballot_in(plan, d, b);
     }
     house::is_no_ballot(b)
 }
@@ -55,7 +55,7 @@ pub fn ballots_for(plan: Plan, job: u8, ballots: [Ballot; 4], n: u8) -> bool
 {
     let mut ok = true;
     for d in 0..n {
-        ok = ok & ballot_for(plan, job, ballots, d);
+        ok = ok & ballot_for(plan, job, ballots, District(d));
     }
     ok
 }

@@ -10,6 +10,7 @@ use native.Mathlib.Omega.{arith}
 use lib.ListN.{length, getD, length-append, List·getD-append}
 use lib.Seq.{getD-at}
 use Rattle.house.specs.Pairs.{boxNo}
+use Rattle.house.specs.declared.BoxNo.{BoxNo}
 use Rattle.plans.specs.Plan.{boxesOf, sizeOf, isBox, planSound}
 use Rattle.plans.specs.Says.{plan-says, box-says}
 use Rattle.plans.specs.declared.Plan.{Plan}
@@ -57,5 +58,5 @@ obeys-box P (newstate-ack from to b) o = o .other .near .addressee
 obeys-box P unknown o = absurd o
 
 -- and so is a good one
-pub good-box : {P : Plan} {m : Rec} → planSound P ≡ true → Good P (senderOf m) m → addresseeOf m .0 < boxesOf P
-good-box {P} {m} s g = box-says P (addresseeOf m) (obeys-box P m (good-obeys s g))
+pub good-box : {P : Plan} {from : BoxNo} {m : Rec} → planSound P ≡ true → Good P from m → addresseeOf m .0 < boxesOf P
+good-box {P} {from} {m} s g = box-says P (addresseeOf m) (obeys-box P m (good-obeys s g))

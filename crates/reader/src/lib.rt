@@ -6,8 +6,7 @@ ghost use lib.ListN.{length};
 ghost use Rattle.plans.specs.Plan.{planSound};
 ghost use Rattle.records.specs.Rec.{noRecord};
 ghost use Rattle.records.specs.Bytes.{stampsAt, rowsAt, lengthOf, shaped, parse};
-ghost use Rattle.records.specs.Outcome.{reads};
-use house::BoxNo;
+ghost use Rattle.records.specs.Outcome.{RecordRead};
 use plans::Plan;
 use records::Answer;
 use records::ReadOut;
@@ -60,17 +59,20 @@ fn parse_record(plan: Plan, s: &[u8]) -> Record
     requires { ⌜ (planSound plan ≡ true) × (shaped plan (now s) ≡ true) ⌝ }
     ensures { λ r. ⌜ r ≡ parse plan (now (s .entry)) ⌝ }
 {
-    let kind = s[1];
+    let head = gets::read_head(&s[1..]);
+    let kind = head.kind;
     let p = stamps_at(plan, kind) + 1;
     let q = rows_at(plan, kind) + 1;
     let ballots = gets::read_ballots(&s[6..], records::ballots_in(plan, kind));
     let stamps = gets::read_stamps(&s[p..], records::stamps_in(kind));
     let table = gets::read_rows(&s[q..], records::rows_in(plan, kind));
+    let from = head.from;
+    let to = head.to;
     Record {
         kind: kind,
-        from: BoxNo(s[2]),
-        to: BoxNo(s[3]),
-        job: s[4],
+        from: from,
+        to: to,
+        job: head.job,
         ballots: ballots,
         stamps: stamps,
         table: table,
@@ -89,17 +91,17 @@ fn refused(n: u8) -> ReadOut
 
 // reads one record, which all bytes of s are
 pub fn read_record(plan: Plan, s: &[u8]) -> ReadOut
-    ensures { λ o. ⌜ o ≡ reads plan (now (s .entry)) ⌝ }
+    ensures { λ o. ⌜ RecordRead plan (now (s .entry)) o ⌝ }
 {
     if sound_plans::plan_sound(plan) {} else {
-        return refused(1);
+        return refused(records::NOT_SOUND);
     }
     if is_shaped(plan, s) {} else {
-        return refused(3);
+        return refused(records::UNREADABLE);
     }
     let r = parse_record(plan, s);
     if rules::is_valid(plan, r) {} else {
-        return refused(4);
+        return refused(records::BROKEN_RULE);
     }
     ReadOut {
         answer: Answer::Done,

@@ -1,19 +1,108 @@
--- Answers: document 01's number for each case, and the first test that fails.
-use Prim.Native.Nat.{ℕ}
+-- Answers: the table of document 01 under one name a number, in the order of checking; and what an answer of the code says in these numbers.
+-- The code's constants of the same names stand in src/lib.rt.
+use Prim.Native.Nat.{ℕ, zero, suc}
 use mathlib.Core.Bool.{Bool, true, false}
+use mathlib.Core.Path.{_≡_, refl, sym, ap, _∙_}
+use native.Mathlib.Omega.{arith}
+use lib.Dec.{eqb}
+use borrow.Author.Tests.{ne-eqb}
 use Rattle.records.specs.declared.Answer.{Answer}
 use Rattle.records.specs.declared.Answer.the-variants.{Done, No}
 
--- a refusal's number in document 01; 0 where all was done
+-- 1 plan or box not sound
+abbrev pub notSound : ℕ
+notSound = 1
+
+-- 2 tray under 4,096 bytes
+abbrev pub smallTray : ℕ
+smallTray = 2
+
+-- 3 unknown kind, a section count that isn't its kind's, bytes missing or left over
+abbrev pub unreadable : ℕ
+unreadable = 3
+
+-- 4 a value breaks a rule
+abbrev pub brokenRule : ℕ
+brokenRule = 4
+
+-- 5 "to" is another box
+abbrev pub otherBox : ℕ
+otherBox = 5
+
+-- 6 job doesn't name the district
+abbrev pub notNamed : ℕ
+notNamed = 6
+
+-- 7 status
+abbrev pub wrongStatus : ℕ
+wrongStatus = 7
+
+-- 8 ballot
+abbrev pub wrongBallot : ℕ
+wrongBallot = 8
+
+-- 9 already done
+abbrev pub alreadyDone : ℕ
+alreadyDone = 9
+
+-- 10 clock or ballot limit
+abbrev pub atLimit : ℕ
+atLimit = 10
+
+-- 11 rehearsal: no such box, job or record; after 1 for the plan, before all the others
+abbrev pub noSuch : ℕ
+noSuch = 11
+
+-- 12 rehearsal: post full; after 1 to 10
+abbrev pub postFull : ℕ
+postFull = 12
+
+-- the number of an answer; 0 where all was done
 abbrev pub answerNo : Answer → ℕ
 answerNo Done = 0
 answerNo (No n) = n
+
+abbrev pub isDone : Answer → Bool
+isDone Done = true
+isDone (No n) = false
+
+-- an answer says 'done' or not, and this number
+pub record Answered (a : Answer) (done : Bool) (n : ℕ) : Type 0 where
+  pub done-is : isDone a ≡ done
+  pub number : answerNo a ≡ n
+
+-- no two answers say the same
+pub one-answer : {a b : Answer} {d : Bool} {n : ℕ} → Answered a d n → Answered b d n → a ≡ b
+one-answer {a} {b} p q = go a b (p .done-is ∙ sym (q .done-is)) (p .number ∙ sym (q .number))
+  where
+    go : (a b : Answer) → isDone a ≡ isDone b → answerNo a ≡ answerNo b → a ≡ b
+    go Done Done e f = refl
+    go Done (No n) e f = cc
+    go (No m) Done e f = cc
+    go (No m) (No n) e f = ap No f
+
+-- the answer with a number: 0 is done
+abbrev pub answerOf : ℕ → Answer
+answerOf zero = Done
+answerOf (suc n) = No (suc n)
+
+pub answered-of : {a : Answer} (n : ℕ) → a ≡ answerOf n → Answered a (eqb n 0) n
+answered-of zero e = record { done-is = ap isDone e; number = ap answerNo e }
+answered-of (suc n) e = record { done-is = ap isDone e ∙ sym (ne-eqb (suc n) 0 (λ q. omega arith)); number = ap answerNo e }
+
+pub done-number : (n : ℕ) → answerOf n ≡ Done → n ≡ 0
+done-number n e = sym (answered-of n refl .number) ∙ ap answerNo e
+
+-- the number n unless the test holds: tests one in another have the number of the first that fails
+abbrev pub unless : Bool → ℕ → ℕ → ℕ
+unless true n k = k
+unless false n k = n
+
+pub unless-none : (t : Bool) (n k : ℕ) → unless t (suc n) k ≡ 0 → (t ≡ true) × (k ≡ 0)
+unless-none true n k e = (refl, e)
+unless-none false n k e = absurd (omega arith)
 
 -- the answer n unless the test holds
 abbrev pub orNo : Bool → ℕ → Answer → Answer
 orNo true n a = a
 orNo false n a = No n
-
-abbrev pub isDone : Answer → Bool
-isDone Done = true
-isDone (No n) = false

@@ -18,11 +18,49 @@ pub struct Record {
     pub table: [Row; 64],
 }
 
-// what a reader or a writer answers: done, or the number of the refusal
+// what a call answers: done, or the number of the refusal
 pub enum Answer {
     Done,
     No(u8),
 }
+
+// The numbers of the refusals, in the order of checking.
+
+// plan or box not sound
+pub const NOT_SOUND: u8 = 1;
+
+// tray under 4,096 bytes
+pub const SMALL_TRAY: u8 = 2;
+
+// unknown kind, a section count that isn't its kind's, bytes missing or left over
+pub const UNREADABLE: u8 = 3;
+
+// a value breaks a rule
+pub const BROKEN_RULE: u8 = 4;
+
+// "to" is another box
+pub const OTHER_BOX: u8 = 5;
+
+// job doesn't name the district
+pub const NOT_NAMED: u8 = 6;
+
+// status
+pub const WRONG_STATUS: u8 = 7;
+
+// ballot
+pub const WRONG_BALLOT: u8 = 8;
+
+// already done
+pub const ALREADY_DONE: u8 = 9;
+
+// clock or ballot limit
+pub const AT_LIMIT: u8 = 10;
+
+// rehearsal: no such box, job or record
+pub const NO_SUCH: u8 = 11;
+
+// rehearsal: post full
+pub const POST_FULL: u8 = 12;
 
 // what the writer answers: how many bytes it wrote
 pub struct Written {

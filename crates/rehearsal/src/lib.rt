@@ -1,4 +1,5 @@
-// The rehearsal: all boxes of a plan and the post, one order at a time. What it means stands in specs/Night.antt.
+// The rehearsal: all boxes of a plan and the post, one order at a time. What it means stands in specs/Night.antt, its promises in
+// specs/Promises.antt.
 ghost use mathlib.Core.Path.{_≡_};
 ghost use Prim.Native.Nat.{ℕ, _+_, _≤_, _<_};
 ghost use lib.ListN.{length, set, take};
@@ -6,7 +7,8 @@ ghost use Rattle.records.specs.Bytes.{encodeAll};
 ghost use Rattle.boxes.specs.Out.{Out, resultOf, recordsOf};
 ghost use mathlib.Core.Bool.{true};
 ghost use Rattle.plans.specs.Plan.{planSound};
-ghost use Rattle.rehearsal.specs.Night.{boxIn, whose, given, turnOf, postOf, freshNight};
+ghost use Rattle.rehearsal.specs.Night.{boxIn};
+ghost use Rattle.rehearsal.specs.Promises.{NightFresh, OrderRehearsed};
 ghost use Rattle.rehearsal.specs.Settled.{Settled, Ordered};
 ghost use Rattle.rehearsal.specs.declared.Order.the-variants.{Post, Stand, Retry, Cut, Carry};
 use boxes::BoxState;
@@ -93,7 +95,7 @@ fn settle(plan: Plan, night: Night, at: usize, out: Outcome, tray: &[u8], post: 
                 };
             }
             Turn {
-                answer: Answer::No(12),
+                answer: Answer::No(records::POST_FULL),
                 records: 0,
                 night: night,
             }
@@ -108,7 +110,7 @@ fn do_stand(plan: Plan, night: Night, p: u32, post: &mut [u8]) -> Turn
 {
     if p < plans::boxes_of(plan) as u32 {} else {
         return Turn {
-            answer: Answer::No(11),
+            answer: Answer::No(records::NO_SUCH),
             records: 0,
             night: night,
         };
@@ -127,7 +129,7 @@ fn do_retry(plan: Plan, night: Night, p: u32, j: u32, post: &mut [u8]) -> Turn
 {
     if (p < plans::boxes_of(plan) as u32) & (j < plan.jobs as u32) {} else {
         return Turn {
-            answer: Answer::No(11),
+            answer: Answer::No(records::NO_SUCH),
             records: 0,
             night: night,
         };
@@ -146,7 +148,7 @@ fn do_cut(plan: Plan, night: Night, p: u32, post: &mut [u8]) -> Turn
 {
     if p < plans::boxes_of(plan) as u32 {} else {
         return Turn {
-            answer: Answer::No(11),
+            answer: Answer::No(records::NO_SUCH),
             records: 0,
             night: night,
         };
@@ -167,7 +169,7 @@ fn do_carry(plan: Plan, night: Night, k: u32, post: &mut [u8]) -> Turn
     let to = posting::byte_at(post, start + 3);
     if (start < night.used) & ((to as u16) < plans::boxes_of(plan)) {} else {
         return Turn {
-            answer: Answer::No(11),
+            answer: Answer::No(records::NO_SUCH),
             records: 0,
             night: night,
         };
@@ -190,7 +192,7 @@ fn do_post(plan: Plan, night: Night, j: u32, post: &mut [u8]) -> Turn
 {
     if j < plan.jobs as u32 {} else {
         return Turn {
-            answer: Answer::No(11),
+            answer: Answer::No(records::NO_SUCH),
             records: 0,
             night: night,
         };
@@ -211,11 +213,11 @@ fn do_post(plan: Plan, night: Night, j: u32, post: &mut [u8]) -> Turn
 
 // one order, carried out or refused
 pub fn rehearse(plan: Plan, night: Night, order: Order, post: &mut [u8]) -> Turn
-    ensures { λ t. ⌜ (t ≡ turnOf plan night (whose plan night (now (post .entry)) order) (given plan night (now (post .entry)) order)) × (now (post .exit) ≡ postOf plan night (now (post .entry)) (given plan night (now (post .entry)) order)) ⌝ }
+    ensures { λ t. ⌜ OrderRehearsed plan night (now (post .entry)) order t (now (post .exit)) ⌝ }
 {
     if sound_plans::plan_sound(plan) {} else {
         return Turn {
-            answer: Answer::No(1),
+            answer: Answer::No(records::NOT_SOUND),
             records: 0,
             night: night,
         };
@@ -231,7 +233,7 @@ pub fn rehearse(plan: Plan, night: Night, order: Order, post: &mut [u8]) -> Turn
 
 // fresh boxes and an empty post
 pub fn fresh_night() -> Night
-    ensures { λ n. ⌜ n ≡ freshNight ⌝ }
+    ensures { λ n. ⌜ NightFresh n ⌝ }
 {
     Night {
         boxes: [

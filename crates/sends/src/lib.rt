@@ -37,7 +37,7 @@ fn goes_to(plan: Plan, r: Record, p: BoxNo) -> bool
         return plans::named(plan, r.job, home);
     }
     if r.kind == 3 {
-        let b = parties::ballot_at(ballots, home.0);
+        let b = parties::ballot_at(ballots, home);
         let leader = b.owner;
         return plans::named(plan, r.job, home) & (leader.0 == p.0);
     }

@@ -1,4 +1,4 @@
--- Each record read means what was written, each meaning has one spelling, and no second answer fits a promise.
+-- Each record read means what was written, and each meaning has one spelling.
 use Prim.Native.Nat.{ℕ, _≤_}
 use mathlib.Core.Bool.{true}
 use mathlib.Core.List.{List}
@@ -12,19 +12,16 @@ use Rattle.plans.specs.declared.Plan.{Plan}
 use Rattle.records.specs.Rec.{meaning}
 use Rattle.records.specs.Rules.{valid}
 use Rattle.records.specs.Bytes.{encode, parse}
-use Rattle.records.specs.Outcome.{writeAnswer, writeBytes, writes, readAnswer, reads, write-says, write-is, read-says, read-is}
+use Rattle.records.specs.Outcome.{writeAnswer, writeBytes, writes, readAnswer, readRecord, reads, write-says, write-is, read-says, read-is}
 use Rattle.records.specs.declared.Record.{Record}
-use Rattle.records.specs.declared.Written.{Written}
-use Rattle.records.specs.declared.ReadOut.{ReadOut}
-use Rattle.records.specs.declared.Answer.{Answer}
-use Rattle.records.specs.declared.Answer.the-variants.{Done, No}
+use Rattle.records.specs.declared.Answer.the-variants.{Done}
 use Rattle.lengths.specs.Lengths.{Arrays}
 use Rattle.spelling.specs.Round.{parse-encode, encode-shaped, encode-parse, parse-arrays}
 use Rattle.spelling.specs.Meanings.{one-carrier}
 
 -- the bytes of a valid record are read as that record
 pub read-encoded : (P : Plan) (r : Record) → planSound P ≡ true → Arrays r → valid P r ≡ true → reads P (encode P r) ≡ record { answer = Done; rec = r }
-unfolding reads
+unfolding reads readRecord
 read-encoded P r sound A v =
     let p = parse-encode P r sound A v in
     let e = read-is P (encode P r) sound (encode-shaped P r sound A v) (ap (valid P) p ∙ v) in
@@ -41,7 +38,7 @@ read-written P r tray A e =
 -- what the reader took is written as the bytes that it was given
 pub write-read : (P : Plan) (s : List ℕ) (room : ℕ) → Bytes s → leastTray ≤ room → reads P s .answer ≡ Done
     → (writes P (reads P s .rec) room ≡ record { answer = Done; used = length s }) × (writeBytes P (reads P s .rec) room ≡ s)
-unfolding reads writes writeBytes
+unfolding reads readRecord writes writeBytes
 write-read P s room b h e =
     let a = read-says P s e in
     let w = write-is P (parse P s) room (a .0) h (a .2) in
@@ -50,7 +47,7 @@ write-read P s room b h e =
 
 -- one spelling of a record
 pub one-spelling : (P : Plan) (s t : List ℕ) → Bytes s → Bytes t → reads P s .answer ≡ Done → reads P t .answer ≡ Done → reads P s .rec ≡ reads P t .rec → s ≡ t
-unfolding reads
+unfolding reads readRecord
 one-spelling P s t b c e f q =
     let x = read-says P s e in let y = read-says P t f in
     let g : parse P s ≡ parse P t = rw (e, f) at q in
@@ -59,7 +56,7 @@ one-spelling P s t b c e f q =
 -- and of a meaning
 pub one-spelling-of-meaning : (P : Plan) (s t : List ℕ) → Bytes s → Bytes t → reads P s .answer ≡ Done → reads P t .answer ≡ Done
     → meaning (reads P s .rec) ≡ meaning (reads P t .rec) → s ≡ t
-unfolding reads
+unfolding reads readRecord
 one-spelling-of-meaning P s t b c e f q =
     let x = read-says P s e in let y = read-says P t f in
     let g : meaning (parse P s) ≡ meaning (parse P t) = rw (e, f) at q in
@@ -69,22 +66,3 @@ one-spelling-of-meaning P s t b c e f q =
 -- one record of a spelling
 pub one-record : (P : Plan) (q r : Record) → planSound P ≡ true → Arrays q → Arrays r → valid P q ≡ true → valid P r ≡ true → encode P q ≡ encode P r → q ≡ r
 one-record P q r sound A B v w e = sym (parse-encode P q sound A v) ∙ ap (parse P) e ∙ parse-encode P r sound B w
-
--- no second answer fits: two results of one promise are the same
-pub one-answer : {A : Type 0} {a b c : A} → a ≡ c → b ≡ c → a ≡ b
-one-answer p q = p ∙ sym q
-
--- the reader's promise
-pub one-reading : (P : Plan) (s : List ℕ) (o o′ : ReadOut) → o ≡ reads P s → o′ ≡ reads P s → o ≡ o′
-one-reading P s o o′ p q = one-answer p q
-
--- the writer's promise: the answer and every byte of the tray
-pub one-writing : (P : Plan) (r : Record) (tray t t′ : List ℕ) (w w′ : Written)
-    → (w ≡ writes P r (length tray)) × (t ≡ onto (writeBytes P r (length tray)) tray) → (w′ ≡ writes P r (length tray)) × (t′ ≡ onto (writeBytes P r (length tray)) tray)
-    → (w ≡ w′) × (t ≡ t′)
-one-writing P r tray t t′ w w′ p q = (one-answer (p .0) (q .0), one-answer (p .1) (q .1))
-
--- the inner writer's promise
-pub one-putting : (P : Plan) (r : Record) (tray t t′ : List ℕ) (u u′ : ℕ)
-    → (u ≡ length (encode P r)) × (t ≡ onto (encode P r) tray) → (u′ ≡ length (encode P r)) × (t′ ≡ onto (encode P r) tray) → (u ≡ u′) × (t ≡ t′)
-one-putting P r tray t t′ u u′ p q = (one-answer (p .0) (q .0), one-answer (p .1) (q .1))

@@ -10,6 +10,7 @@ use Rattle.house.specs.Limits.{leastTray}
 use Rattle.house.specs.Pairs.{boxNo}
 use Rattle.plans.specs.Plan.{boxesOf, isJob, planSound}
 use Rattle.plans.specs.declared.Plan.{Plan}
+use Rattle.records.specs.Answers.{notSound, noSuch}
 use Rattle.records.specs.Rec.{Rec, unknown, carried, addresseeOf}
 use Rattle.boxes.specs.Box.{fresh}
 use Rattle.boxes.specs.Out.{Out, refused, does, guard}
@@ -69,7 +70,7 @@ acts P w (carry k) = takes P (boxAt w (addresseeOf (recordAt w k) .0)) leastTray
 
 -- 1 for the plan, then 11, then the box's own answers
 unfoldable pub given : Plan → World → Order → Out
-given P w o = guard (planSound P) 1 (guard (exists P w o) 11 (acts P w o))
+given P w o = guard (planSound P) notSound (guard (exists P w o) noSuch (acts P w o))
 
 -- one box changes, its records are appended; a refusal changes nothing
 abbrev pub finish : World → ℕ → Out → World

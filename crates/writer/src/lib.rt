@@ -6,7 +6,7 @@ ghost use lib.ListN.{length};
 ghost use Rattle.laws.specs.Tray.{onto};
 ghost use Rattle.plans.specs.Plan.{planSound};
 ghost use Rattle.records.specs.Bytes.{encode};
-ghost use Rattle.records.specs.Outcome.{writeAnswer, writeBytes, writes};
+ghost use Rattle.records.specs.Outcome.{writeAnswer, RecordWritten};
 use plans::Plan;
 use records::Answer;
 use records::Record;
@@ -32,20 +32,20 @@ fn may_write(plan: Plan, r: Record, room: usize) -> Answer
     ensures { λ a. ⌜ a ≡ writeAnswer plan r room ⌝ }
 {
     if sound_plans::plan_sound(plan) {} else {
-        return Answer::No(1);
+        return Answer::No(records::NOT_SOUND);
     }
     if house::LEAST_TRAY <= room {} else {
-        return Answer::No(2);
+        return Answer::No(records::SMALL_TRAY);
     }
     if rules::is_valid(plan, r) {} else {
-        return Answer::No(4);
+        return Answer::No(records::BROKEN_RULE);
     }
     Answer::Done
 }
 
 // writes the record, or changes nothing
 pub fn write_record(plan: Plan, r: Record, tray: &mut [u8]) -> Written
-    ensures { λ w. ⌜ (w ≡ writes plan r (length (now (tray .entry)))) × (now (tray .exit) ≡ onto (writeBytes plan r (length (now (tray .entry)))) (now (tray .entry))) ⌝ }
+    ensures { λ w. ⌜ RecordWritten plan r (now (tray .entry)) w (now (tray .exit)) ⌝ }
 {
     let answer = may_write(plan, r, tray.len());
     match answer {

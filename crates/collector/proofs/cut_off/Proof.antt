@@ -2,6 +2,7 @@
 use Rattle.sends.specs.Sends.{encode-none}
 use Rattle.boxes.specs.Out.{guard}
 use Rattle.boxes.specs.Step.{cutOff}
+use Rattle.boxes.specs.Promise.{says-result}
 use mathlib.Core.Path.{sym, _∙_}
 use borrow.Author.Needs.{needs}
 use Rattle.collector.proofs.cut_off.Statement.{statement}
@@ -15,11 +16,11 @@ cut-box-requires c κs = search needs
 
 returns : tie.Need-returns
 unfolding cutOff guard
-returns c = rw (sym (c .before .before .is-sound .ensures) ∙ c .before .if1 .taken, c .cut-box .ensures, encode-none (c .before .before .before .args .plan))
+returns c = says-result (rw (sym (c .before .before .is-sound .ensures) ∙ c .before .if1 .taken, c .cut-box .ensures, encode-none (c .before .before .before .args .plan)))
 
 returns-2 : tie.Need-returns-2
 unfolding cutOff guard
-returns-2 c = rw (sym (c .before .is-sound .ensures) ∙ c .if1 .left)
+returns-2 c = says-result (rw (sym (c .before .is-sound .ensures) ∙ c .if1 .left))
 
 pub cut-off-spec : {M : Type 1} → statement M
 cut-off-spec = tie.close (tie.spec is-sound-requires cut-box-requires returns returns-2)

@@ -2,6 +2,7 @@
 use Rattle.collector.specs.Face.{two-go, stood-is, stand-fits}
 use Rattle.sends.specs.Sends.{encode-none}
 use Rattle.boxes.specs.Sound.{sound}
+use Rattle.boxes.specs.Promise.{stepped}
 use Rattle.house.specs.Limits.{leastTray}
 use Rattle.laws.specs.Tray.{onto-nil}
 use borrow.Author.Tests.{leb-true}
@@ -30,7 +31,7 @@ stand-now-requires c κs =
 returns : tie.Need-returns
 returns c =
     let a = c .before .before .before .before .before .args in let v = stood-is (a .plan) (a .x) (length (a .tray .now)) (sym (c .before .before .before .admit .ensures .0) ∙ c .before .first .given .1) in
-    (rw v, rw (v, encode-none (a .plan)) (sym (onto-nil (a .tray .now))))
+    stepped (rw v) (rw (v, encode-none (a .plan)) (sym (onto-nil (a .tray .now))))
 
 same-length : tie.Need-same-length
 same-length c = search needs
@@ -38,7 +39,7 @@ same-length c = search needs
 returns-2 : tie.Need-returns-2
 returns-2 c =
     let a = c .before .before .before .before .before .before .before .before .args in let v = stood-is (a .plan) (a .x) (length (a .tray .now)) (sym (c .before .before .before .before .before .before .admit .ensures .0) ∙ c .before .before .before .before .enum-told .given .1) in let p = c .before .before .stand-now in
-    (rw v (p .ensures .0), rw v (p .ensures .1))
+    stepped (rw v (p .ensures .0)) (rw v (p .ensures .1))
 
 pub stand-up-spec : {M : Type 1} → statement M
 stand-up-spec =

@@ -5,6 +5,7 @@ use Rattle.hearing.specs.HeardLaws.{obeyed-heard, obeyed-text}
 use Rattle.hearing.specs.Heard.{obeyed}
 use Rattle.laws.specs.Tray.{onto}
 use mathlib.Core.Path.{ap, _∙_}
+use Rattle.rehearsal.specs.Promises.{turn-is}
 use borrow.Author.Needs.{needs}
 use Rattle.hearing.proofs.obey.Statement.{statement}
 use Rattle.hearing.proofs.obey.Tie as tie
@@ -31,9 +32,9 @@ returns c =
     let q = c .before .before .before .before .say-turn in
     let r = c .before .before .before .before .before .before .before .before .rehearse in (
       q .ensures .0,
-      rw (c .fix .ensures, q .ensures .1) (obeyed-heard (a .desk) (a .night) (a .post .now) (a .order) (r .result) (r .ensures .0)),
-      r .ensures .1,
-      q .ensures .2 ∙ ap (λ (x : List ℕ). onto x (a .t .now)) (obeyed-text (a .desk) (a .night) (a .post .now) (a .order) (r .result) (r .ensures .0)),
+      rw (c .fix .ensures, q .ensures .1) (obeyed-heard (a .desk) (a .night) (a .post .now) (a .order) (r .result) (turn-is (r .ensures))),
+      r .ensures .post,
+      q .ensures .2 ∙ ap (λ (x : List ℕ). onto x (a .t .now)) (obeyed-text (a .desk) (a .night) (a .post .now) (a .order) (r .result) (turn-is (r .ensures))),
     )
 
 pub obey-spec : {M : Type 1} → statement M

@@ -1,5 +1,5 @@
 -- `parties::ballot_at` meets its contract.
-use mathlib.Core.Path.{_≡_, sym, _∙_}
+use mathlib.Core.Path.{_≡_, refl, sym, _∙_}
 use native.Mathlib.Omega.{arith}
 use lib.ListN.{length, List·getD-eq-default}
 use Rattle.house.specs.Pairs.{noBallot}
@@ -12,9 +12,12 @@ no-ballot-requires c κs = search needs
 
 returns : tie.Need-returns
 returns c =
-    let a = c .before .before .args in
+    let a = c .before .before .before .args in
     let n : length (a .t1) ≡ 4 = search needs in
-    c .no-ballot .ensures ∙ sym (List·getD-eq-default (a .t1) noBallot {n = a .d} (omega (arith, n, c .before .if1 .taken)))
+    c .no-ballot .ensures ∙ sym (List·getD-eq-default (a .t1) noBallot {n = a .d .0} (omega (arith, n, c .before .if1 .taken)))
+
+cast-at : tie.Need-cast-at
+cast-at c = search needs
 
 mul-result : tie.Need-mul-result
 mul-result c = search needs
@@ -23,8 +26,9 @@ array-copy-out-result : tie.Need-array-copy-out-result
 array-copy-out-result c = search needs
 
 returns-2 : tie.Need-returns-2
-returns-2 c = search needs
+returns-2 c = refl
 
 pub ballot-at-spec : {M : Type 1} → statement M
 ballot-at-spec =
-    tie.close (tie.spec no-ballot-requires returns mul-result array-copy-out-result returns-2)
+    tie.close
+    (tie.spec no-ballot-requires returns cast-at mul-result array-copy-out-result returns-2)

@@ -6,6 +6,7 @@ use Rattle.plans.specs.Says.{boxes-most}
 use Rattle.plans.specs.Plan.{boxesOf}
 use Rattle.house.specs.Limits.{leastTray}
 use Rattle.laws.specs.Choice.{and-right}
+use Rattle.boxes.specs.Promise.{result-is}
 use borrow.Author.Tests.{ltb-true}
 use lib.ListN.{length, take, drop}
 use lib.Dec.{ltb}
@@ -106,7 +107,7 @@ settle-requires c κs =
     let l : c .before .before .before .before .before .before .before .before .before .before .before .before .before .before .before .before .byte-at .result < c .before .before .before .before .before .before .before .before .before .before .before .before .before .before .boxes-of .result = ltb-true _ _ (and-right (ltb (c .before .before .before .before .before .before .before .before .before .before .before .before .before .before .before .before .before .before .start-of .result) (a .night .used)) (ltb (c .before .before .before .before .before .before .before .before .before .before .before .before .before .before .before .before .byte-at .result) (c .before .before .before .before .before .before .before .before .before .before .before .before .before .before .boxes-of .result)) t) in
     let m = boxes-most (a .plan) (c .before .before .before .before .before .before .before .before .before .before .before .before .before .before .before .before .before .before .before .before .before .pre) in
     let g : c .before .before .before .before .before .before .before .before .before .before .before .before .before .before .before .before .byte-at .result < 12 = omega (arith, e, l, m) in
-    let W = wrote (a .plan) (x .result) (receives (a .plan) (x .result) leastTray (take (v .result - w .result) (drop (w .result) (a .post .now)))) _ _ (q .result) (q .ensures .0) (q .ensures .1) (q .kept .1 .1 .1 .0) in
+    let W = wrote (a .plan) (x .result) (receives (a .plan) (x .result) leastTray (take (v .result - w .result) (drop (w .result) (a .post .now)))) _ _ (q .result) (result-is (q .ensures .says)) (q .ensures .tray) (q .kept .1 .1 .1 .0) in
     (g, W .0)
 
 same-length-2 : tie.Need-same-length-2
@@ -119,10 +120,10 @@ returns-2 c =
     let st = c .before .before .before .before .before .before .before .before .before .before .before .before .before .before .before .before .before .before .before .before .before .start-of in let to = c .before .before .before .before .before .before .before .before .before .before .before .before .before .before .before .before .before .before .before .byte-at in
     let o = receives P (x .result) leastTray (take (v .result - w .result) (drop (w .result) s)) in
     let h = carry-exists P n s (a .k) (st .result) (to .result) (st .ensures .0) (to .ensures) (c .before .before .before .before .before .before .before .before .before .before .before .before .before .before .before .before .before .boxes-of .result) (c .before .before .before .before .before .before .before .before .before .before .before .before .before .before .before .before .before .boxes-of .ensures .0) (c .before .before .before .before .before .before .before .before .before .before .before .before .before .before .before .before .if1 .taken) in
-    let W = wrote P (x .result) o _ _ (q .result) (q .ensures .0) (q .ensures .1) (q .kept .1 .1 .1 .0) in
+    let W = wrote P (x .result) o _ _ (q .result) (result-is (q .ensures .says)) (q .ensures .tray) (q .kept .1 .1 .1 .0) in
     let d = carry-acts P n s (a .k) (st .result) (to .result) (st .ensures .0) (to .ensures) (x .result) (w .result) (v .result) (c .before .before .before .before .before .before .before .before .before .before .before .before .before .before .byte-at2 .result) (c .before .before .before .before .before .before .before .before .before .before .before .before .before .length-of .result) (x .ensures) (c .before .before .before .before .before .before .before .before .before .before .before .before .before .before .byte-at2 .ensures) (c .before .before .before .before .before .before .before .before .before .before .before .before .before .length-of .ensures .0) (w .ensures .0) (v .ensures .0) in
     has-acted P n s (Carry (a .k)) (to .result) o h (carry-to P n s (a .k) (st .result) (to .result) (st .ensures .0) (to .ensures)) d
-    (c .before .before .settle .ensures o (x .result) (q .ensures .0) (W .1))
+    (c .before .before .settle .ensures o (x .result) (result-is (q .ensures .says)) (W .1))
 
 pub do-carry-spec : {M : Type 1} → statement M
 do-carry-spec =

@@ -6,6 +6,7 @@ use Rattle.rehearsal.specs.Night.{exists, whose, acts}
 use Rattle.boxes.specs.Step.{cutOff}
 use Rattle.plans.specs.Says.{boxes-most}
 use Rattle.plans.specs.Plan.{boxesOf}
+use Rattle.boxes.specs.Promise.{result-is}
 use borrow.Author.Tests.{lt-ltb, le-ltb}
 use native.Mathlib.Omega.{arith}
 use Prim.Native.Nat.{_<_, _≤_}
@@ -51,7 +52,7 @@ settle-requires c κs =
     let l : a .p < c .before .before .before .before .before .boxes-of .result = c .before .before .before .before .if1 .taken in
     let m = boxes-most (a .plan) (c .before .before .before .before .before .before .before .pre) in
     let g : a .p < 12 = omega (arith, e, l, m) in
-    let W = cut-wrote (a .plan) (x .result) (0 ∷ []) (q .result) (q .ensures) in
+    let W = cut-wrote (a .plan) (x .result) (0 ∷ []) (q .result) (result-is (q .ensures)) in
     (g, W .0)
 
 same-length : tie.Need-same-length
@@ -64,10 +65,10 @@ returns-2 c =
     let e : c .before .before .before .before .before .before .before .before .boxes-of .result ≡ boxesOf (a .plan) = c .before .before .before .before .before .before .before .before .boxes-of .ensures .0 in
     let l : a .p < c .before .before .before .before .before .before .before .before .boxes-of .result = c .before .before .before .before .before .before .before .if1 .taken in
     let g : a .p < boxesOf (a .plan) = omega (arith, e, l) in
-    let W = cut-wrote (a .plan) (x .result) (0 ∷ []) (q .result) (q .ensures) in
+    let W = cut-wrote (a .plan) (x .result) (0 ∷ []) (q .result) (result-is (q .ensures)) in
     let d : acts (a .plan) (a .night) (a .post .now) (Cut (a .p)) ≡ cutOff (a .plan) (x .result) = rw (x .ensures) in
     has-acted (a .plan) (a .night) (a .post .now) (Cut (a .p)) (a .p) (cutOff (a .plan) (x .result)) (lt-ltb (a .p) (boxesOf (a .plan)) g) refl d
-    (c .before .before .settle .ensures (cutOff (a .plan) (x .result)) (x .result) (q .ensures) (W .1))
+    (c .before .before .settle .ensures (cutOff (a .plan) (x .result)) (x .result) (result-is (q .ensures)) (W .1))
 
 pub do-cut-spec : {M : Type 1} → statement M
 do-cut-spec =

@@ -46,7 +46,7 @@ settle-requires c κs =
     let a = c .before .before .before .before .before .before .before .before .before .args in let q = c .before .before .before .post-job in let x = c .before .before .before .before .before .box-at in
     let l : a .j < a .plan .jobs = c .before .before .before .before .before .before .if1 .taken in
     let h : isJob (a .plan) (a .j) ≡ true = lt-ltb (a .j) (a .plan .jobs) l in
-    let W = post-wrote (a .plan) (x .result) (a .j) (q .result) _ _ (c .before .before .before .before .before .before .before .before .before .pre) h (q .ensures .0) (q .ensures .1) (q .kept .1 .1 .0) in
+    let W = post-wrote (a .plan) (x .result) (a .j) (q .result) _ _ (c .before .before .before .before .before .before .before .before .before .pre) h refl (q .ensures) (q .kept .1 .1 .0) in
     (omega arith, W .fits)
 
 same-length : tie.Need-same-length
@@ -58,7 +58,7 @@ returns-2 c =
     let a = c .before .before .before .before .before .before .before .before .before .before .before .before .args in let q = c .before .before .before .before .before .before .post-job in let x = c .before .before .before .before .before .before .before .before .box-at in
     let l : a .j < a .plan .jobs = c .before .before .before .before .before .before .before .before .before .if1 .taken in
     let h : isJob (a .plan) (a .j) ≡ true = lt-ltb (a .j) (a .plan .jobs) l in
-    let W = post-wrote (a .plan) (x .result) (a .j) (q .result) _ _ (c .before .before .before .before .before .before .before .before .before .before .before .before .pre) h (q .ensures .0) (q .ensures .1) (q .kept .1 .1 .0) in
+    let W = post-wrote (a .plan) (x .result) (a .j) (q .result) _ _ (c .before .before .before .before .before .before .before .before .before .before .before .before .pre) h refl (q .ensures) (q .kept .1 .1 .0) in
     let d : acts (a .plan) (a .night) (a .post .now) (Post (a .j)) ≡ does (x .result) (posts (a .plan) (a .j)) Nothing = rw (x .ensures) in
     has-acted (a .plan) (a .night) (a .post .now) (Post (a .j)) 0 (does (x .result) (posts (a .plan) (a .j)) Nothing) h refl d
     (c .before .before .settle .ensures (does (x .result) (posts (a .plan) (a .j)) Nothing) (x .result) (W .outcome) (W .front))

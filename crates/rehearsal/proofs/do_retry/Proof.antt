@@ -7,6 +7,7 @@ use Rattle.plans.specs.Says.{boxes-most, plan-says}
 use Rattle.plans.specs.Plan.{boxesOf, isJob}
 use Rattle.house.specs.Limits.{leastTray}
 use Rattle.laws.specs.Choice.{and-left, and-right}
+use Rattle.boxes.specs.Promise.{result-is}
 use borrow.Author.Tests.{ltb-true}
 use lib.Dec.{ltb}
 use native.Mathlib.Omega.{arith}
@@ -68,7 +69,7 @@ settle-requires c κs =
     let l : a .p < c .before .before .before .before .before .before .before .before .boxes-of .result = ltb-true (a .p) (c .before .before .before .before .before .before .before .before .boxes-of .result) (and-left (ltb (a .p) (c .before .before .before .before .before .before .before .before .boxes-of .result)) (ltb (a .j) (a .plan .jobs)) t) in
     let m = boxes-most (a .plan) (c .before .before .before .before .before .before .before .before .before .before .pre) in
     let g : a .p < 12 = omega (arith, e, l, m) in
-    let W = wrote (a .plan) (x .result) (retried (a .plan) (x .result) (a .j) leastTray) _ _ (q .result) (q .ensures .0) (q .ensures .1) (q .kept .1 .1 .1 .0) in
+    let W = wrote (a .plan) (x .result) (retried (a .plan) (x .result) (a .j) leastTray) _ _ (q .result) (result-is (q .ensures .says)) (q .ensures .tray) (q .kept .1 .1 .1 .0) in
     (g, W .0)
 
 same-length : tie.Need-same-length
@@ -80,10 +81,10 @@ returns-2 c =
     let a = c .before .before .before .before .before .before .before .before .before .before .before .before .before .args in let q = c .before .before .before .before .before .before .retry-job in let x = c .before .before .before .before .before .before .before .before .box-at in
     let t : (ltb (a .p) (c .before .before .before .before .before .before .before .before .before .before .before .boxes-of .result) && ltb (a .j) (a .plan .jobs)) ≡ true = c .before .before .before .before .before .before .before .before .before .if1 .taken in
     let h : exists (a .plan) (a .night) (a .post .now) (Retry (a .p) (a .j)) ≡ true = rw (← c .before .before .before .before .before .before .before .before .before .before .before .boxes-of .ensures .0) t in
-    let W = wrote (a .plan) (x .result) (retried (a .plan) (x .result) (a .j) leastTray) _ _ (q .result) (q .ensures .0) (q .ensures .1) (q .kept .1 .1 .1 .0) in
+    let W = wrote (a .plan) (x .result) (retried (a .plan) (x .result) (a .j) leastTray) _ _ (q .result) (result-is (q .ensures .says)) (q .ensures .tray) (q .kept .1 .1 .1 .0) in
     let d : acts (a .plan) (a .night) (a .post .now) (Retry (a .p) (a .j)) ≡ retried (a .plan) (x .result) (a .j) leastTray = rw (x .ensures) in
     has-acted (a .plan) (a .night) (a .post .now) (Retry (a .p) (a .j)) (a .p) (retried (a .plan) (x .result) (a .j) leastTray) h refl d
-    (c .before .before .settle .ensures (retried (a .plan) (x .result) (a .j) leastTray) (x .result) (q .ensures .0) (W .1))
+    (c .before .before .settle .ensures (retried (a .plan) (x .result) (a .j) leastTray) (x .result) (result-is (q .ensures .says)) (W .1))
 
 pub do-retry-spec : {M : Type 1} → statement M
 do-retry-spec =

@@ -6,6 +6,7 @@ use Rattle.boxes.specs.Step.{stood}
 use Rattle.plans.specs.Says.{boxes-most}
 use Rattle.plans.specs.Plan.{boxesOf}
 use Rattle.house.specs.Limits.{leastTray}
+use Rattle.boxes.specs.Promise.{result-is}
 use borrow.Author.Tests.{lt-ltb, le-ltb}
 use native.Mathlib.Omega.{arith}
 use Prim.Native.Nat.{_<_, _≤_}
@@ -54,7 +55,7 @@ settle-requires c κs =
     let l : a .p < c .before .before .before .before .before .before .before .boxes-of .result = c .before .before .before .before .before .before .if1 .taken in
     let m = boxes-most (a .plan) (c .before .before .before .before .before .before .before .before .before .pre) in
     let g : a .p < 12 = omega (arith, e, l, m) in
-    let W = wrote (a .plan) (x .result) (stood (a .plan) (x .result) leastTray) _ _ (q .result) (q .ensures .0) (q .ensures .1) (q .kept .1 .1 .0) in
+    let W = wrote (a .plan) (x .result) (stood (a .plan) (x .result) leastTray) _ _ (q .result) (result-is (q .ensures .says)) (q .ensures .tray) (q .kept .1 .1 .0) in
     (g, W .0)
 
 same-length : tie.Need-same-length
@@ -67,10 +68,10 @@ returns-2 c =
     let e : c .before .before .before .before .before .before .before .before .before .before .boxes-of .result ≡ boxesOf (a .plan) = c .before .before .before .before .before .before .before .before .before .before .boxes-of .ensures .0 in
     let l : a .p < c .before .before .before .before .before .before .before .before .before .before .boxes-of .result = c .before .before .before .before .before .before .before .before .before .if1 .taken in
     let g : a .p < boxesOf (a .plan) = omega (arith, e, l) in
-    let W = wrote (a .plan) (x .result) (stood (a .plan) (x .result) leastTray) _ _ (q .result) (q .ensures .0) (q .ensures .1) (q .kept .1 .1 .0) in
+    let W = wrote (a .plan) (x .result) (stood (a .plan) (x .result) leastTray) _ _ (q .result) (result-is (q .ensures .says)) (q .ensures .tray) (q .kept .1 .1 .0) in
     let d : acts (a .plan) (a .night) (a .post .now) (Stand (a .p)) ≡ stood (a .plan) (x .result) leastTray = rw (x .ensures) in
     has-acted (a .plan) (a .night) (a .post .now) (Stand (a .p)) (a .p) (stood (a .plan) (x .result) leastTray) (lt-ltb (a .p) (boxesOf (a .plan)) g) refl d
-    (c .before .before .settle .ensures (stood (a .plan) (x .result) leastTray) (x .result) (q .ensures .0) (W .1))
+    (c .before .before .settle .ensures (stood (a .plan) (x .result) leastTray) (x .result) (result-is (q .ensures .says)) (W .1))
 
 pub do-stand-spec : {M : Type 1} → statement M
 do-stand-spec =

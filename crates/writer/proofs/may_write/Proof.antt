@@ -1,6 +1,6 @@
 -- `writer::may_write` meets its contract.
 use borrow.Author.Tests.{le-leb, lt-leb}
-use Rattle.records.specs.Outcome.{writeAnswer}
+use Rattle.records.specs.Outcome.{writeNo, writeAnswer}
 use mathlib.Core.Path.{sym, _∙_}
 use borrow.Author.Needs.{needs}
 use Rattle.writer.proofs.may_write.Statement.{statement}
@@ -10,22 +10,22 @@ plan-sound-requires : tie.Need-plan-sound-requires
 plan-sound-requires c κs = search needs
 
 returns : tie.Need-returns
-unfolding writeAnswer
+unfolding writeAnswer writeNo
 returns c = rw (sym (c .before .plan-sound .ensures) ∙ c .if1 .left)
 
 returns-2 : tie.Need-returns-2
-unfolding writeAnswer
+unfolding writeAnswer writeNo
 returns-2 c = rw (sym (c .before .before .plan-sound .ensures) ∙ c .before .if1 .taken, lt-leb _ _ (c .if2 .left))
 
 is-valid-requires : tie.Need-is-valid-requires
 is-valid-requires c κs = search needs
 
 returns-3 : tie.Need-returns-3
-unfolding writeAnswer
+unfolding writeAnswer writeNo
 returns-3 c = rw (sym (c .before .before .before .before .plan-sound .ensures) ∙ c .before .before .before .if1 .taken, le-leb _ _ (c .before .before .if2 .taken), sym (c .before .is-valid .ensures) ∙ c .if3 .left)
 
 returns-4 : tie.Need-returns-4
-unfolding writeAnswer
+unfolding writeAnswer writeNo
 returns-4 c = rw (sym (c .before .before .before .before .plan-sound .ensures) ∙ c .before .before .before .if1 .taken, le-leb _ _ (c .before .before .if2 .taken), sym (c .before .is-valid .ensures) ∙ c .if3 .taken)
 
 pub may-write-spec : {M : Type 1} → statement M

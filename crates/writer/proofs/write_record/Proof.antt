@@ -1,6 +1,6 @@
 -- `writer::write_record` meets its contract.
 use Rattle.lengths.specs.Lengths.{Arrays, unmapped, encode-fits}
-use Rattle.records.specs.Outcome.{writeBytes, writes, write-says}
+use Rattle.records.specs.Outcome.{writeBytes, writes, write-promised, write-says}
 use Rattle.laws.specs.Tray.{onto-nil}
 use native.Mathlib.Omega.{arith}
 use mathlib.Core.Path.{sym, _∙_}
@@ -35,13 +35,13 @@ returns : tie.Need-returns
 unfolding writes writeBytes
 returns c =
     let e = sym (c .before .before .before .before .before .before .may-write .ensures) ∙ c .before .before .before .before .enum-told .given .1 in let p = c .before .before .put-record in
-    (rw (e, p .ensures .0), rw e (p .ensures .1))
+    write-promised (rw (e, p .ensures .0)) (rw e (p .ensures .1))
 
 returns-2 : tie.Need-returns-2
 unfolding writes writeBytes
 returns-2 c =
     let e = sym (c .before .before .before .may-write .ensures) ∙ c .before .answer .given .1 in
-    (rw e, rw e (sym (onto-nil (c .before .before .before .before .before .args .tray .now))))
+    write-promised (rw e) (rw e (sym (onto-nil (c .before .before .before .before .before .args .tray .now))))
 
 pub write-record-spec : {M : Type 1} → statement M
 write-record-spec =

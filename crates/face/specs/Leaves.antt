@@ -1,0 +1,132 @@
+-- THE THEOREM OF THE FACE: a step from a sound box leaves a sound box; each record that it wrote is read back by the reader as itself and is
+-- addressed as document 01 says; all of them fit. Said of the promises of the public functions.
+use Prim.Native.Nat.{ℕ, _≤_, _<_}
+use mathlib.Core.Bool.{true}
+use mathlib.Core.List.{List}
+use mathlib.Core.Path.{_≡_, refl, sym, subst, _∙_}
+use native.Mathlib.Omega.{arith}
+use lib.ListN.{length, take}
+use lib.Dec.{leb}
+use Rattle.laws.specs.Place.{In}
+use Rattle.laws.specs.Tray.{onto, onto-front}
+use Rattle.house.specs.Limits.{leastTray}
+use Rattle.house.specs.declared.BoxNo.{BoxNo}
+use Rattle.plans.specs.Plan.{boxesOf, officeOf, homeOf, names, planSound}
+use Rattle.plans.specs.declared.Plan.{Plan}
+use Rattle.records.specs.Format.{hasJob}
+use Rattle.records.specs.Rec.{Rec, carried, senderOf, addresseeOf}
+use Rattle.records.specs.Bytes.{encode, encodeAll, shaped, parse}
+use Rattle.records.specs.Rules.{valid}
+use Rattle.records.specs.Outcome.{RecordRead, read-promised}
+use Rattle.records.specs.declared.Answer.{Answer}
+use Rattle.records.specs.declared.Answer.the-variants.{Done, No}
+use Rattle.boxes.specs.Sound.{sound}
+use Rattle.boxes.specs.Out.{Out, refused, does, recordsOf}
+use Rattle.boxes.specs.Step.{receives, mayPost, postedRecords}
+use Rattle.boxes.specs.Promise.{Says, Stepped, boxAfter}
+use Rattle.boxes.specs.declared.BoxState.{BoxState}
+use Rattle.boxes.specs.declared.Outcome.{Outcome}
+use Rattle.spelling.specs.Readback.{read-encoded}
+use Rattle.keeps.specs.Sound.{Lengths, sound-is}
+use Rattle.keeps.specs.Sends.{Every, no-step, a-step, every-guard, AllGood, good-nil}
+use Rattle.keeps.specs.Size.{longestOutput}
+use Rattle.keeps.specs.Goods.{Keeps, fits-none}
+use Rattle.keeps.specs.Steps.{takes-every, retried-every, stood-every, cut-off-every, posts-good, posts-fit}
+use Rattle.reach.specs.Boxes.{good-box}
+use Rattle.collector.specs.Face.{parse-sized, sound-plan}
+use Rattle.collector.specs.Promises.{BytesReceived, JobRetried, BoxStood, BoxCut, JobPosted}
+use Rattle.collector.specs.declared.Posted.{Posted}
+
+-- record m, from this sender, goes where document 01 sends it: to a box, and in kinds 1 to 4 to one of a district that the job names
+-- (kinds 4 to 8 stay in one district by the rules of a valid record)
+pub record Addressed (P : Plan) (from : BoxNo) (m : Rec) : Type 0 where
+  pub sender : senderOf m ≡ from
+  pub addressee : addresseeOf m .0 < boxesOf P
+  pub named : hasJob (carried m .kind) ≡ true → names P (carried m .job) (homeOf P (addresseeOf m)) ≡ true
+  pub obeys : valid P (carried m) ≡ true
+
+-- the first `used` bytes of a tray are `count` records, one behind the other
+pub record Sent (P : Plan) (from : BoxNo) (count used : ℕ) (tray : List ℕ) : Type 0 where
+  pub records : List Rec
+  pub all : count ≡ length records
+  pub bytes : take used tray ≡ encodeAll P records
+  -- they fit into every tray that is not refused
+  pub fit : used ≤ longestOutput
+  -- each is read back as itself
+  pub read : (m : Rec) → In m records → RecordRead P (encode P (carried m)) (record { answer = Done; rec = carried m })
+  pub addressed : (m : Rec) → In m records → Addressed P from m
+
+-- the box after a step: sound, with its arrays' lengths, and the same number
+pub record Stays (P : Plan) (x y : BoxState) : Type 0 where
+  pub is-sound : sound P y ≡ true
+  pub lengths : Lengths y
+  pub own : y .core .own ≡ x .core .own
+
+-- ---- records
+
+sent : {P : Plan} {from : BoxNo} {l : List Rec} (count used : ℕ) (before tray : List ℕ) → planSound P ≡ true → AllGood P from l → length (encodeAll P l) ≤ longestOutput
+    → count ≡ length l → used ≡ length (encodeAll P l) → tray ≡ onto (encodeAll P l) before → Sent P from count used tray
+sent {P} {from} {l} count used before tray s G f c u t =
+    record {
+      records = l;
+      all = c;
+      bytes = rw t (onto-front (encodeAll P l) before used u);
+      fit = omega arith;
+      read = λ m i. let g = G .each m i in read-promised (sym (read-encoded P (carried m) s (record { four = g .sized .ballots; two = g .sized .stamps; many = g .sized .table }) (g .is-valid)));
+      addressed = λ m i. let g = G .each m i in record { sender = g .by; addressee = good-box s g; named = g .named; obeys = g .is-valid };
+    }
+
+-- ---- a step of a box
+
+module _ {P : Plan} {x : BoxState} (s : sound P x ≡ true) (L : Lengths x) where
+  good-records : (o : Out) → Every (Keeps P x) o → AllGood P (x .core .own) (recordsOf o) × (length (encodeAll P (recordsOf o)) ≤ longestOutput)
+  good-records (refused n) no-step = (good-nil, fits-none P)
+  good-records (does y l d) (a-step K) = (K .good, K .fits)
+
+  box-stays : (o : Out) → Every (Keeps P x) o → Stays P x (boxAfter x o)
+  box-stays (refused n) no-step = record { is-sound = s; lengths = L; own = refl }
+  box-stays (does y l d) (a-step K) = record { is-sound = sound-is P y (K .fine .sound); lengths = K .fine .lengths; own = K .same }
+
+  said-stays : {o : Out} {r : Outcome} → Every (Keeps P x) o → Says P x o r → Stays P x (r .state)
+  said-stays {o} e p = subst (Stays P x) (sym (p .state)) (box-stays o e)
+
+  stepped-sent : {o : Out} {before : List ℕ} {r : Outcome} {after : List ℕ} → Every (Keeps P x) o → Stepped P x o before r after → Sent P (x .core .own) (r .records) (r .used) after
+  stepped-sent {o} {before} {r} {after} e p =
+      let g = good-records o e in
+      sent (r .records) (r .used) before after (sound-plan P x s) (g .0) (g .1) (p .says .records) (p .says .used) (p .tray)
+
+  received-every : (room : ℕ) (bytes : List ℕ) → Every (Keeps P x) (receives P x room bytes)
+  unfolding receives
+  received-every room bytes =
+      every-guard (sound P x) _ _ (λ a. every-guard (leb leastTray room) _ _ (λ b. every-guard (shaped P bytes) _ _ (λ c. takes-every P x room (parse P bytes) L (parse-sized P bytes (sound-plan P x s)))))
+
+  -- receive
+  pub receive-leaves : (bytes : List ℕ) {before : List ℕ} {r : Outcome} {after : List ℕ} → BytesReceived P x bytes before r after
+      → Stays P x (r .state) × Sent P (x .core .own) (r .records) (r .used) after
+  receive-leaves bytes {before} p = let e = received-every (length before) bytes in (said-stays e (p .says), stepped-sent e p)
+
+  -- retry_job
+  pub retry-leaves : (j : ℕ) {before : List ℕ} {r : Outcome} {after : List ℕ} → JobRetried P x j before r after
+      → Stays P x (r .state) × Sent P (x .core .own) (r .records) (r .used) after
+  retry-leaves j {before} p = let e = retried-every P x j (length before) L in (said-stays e (p .says), stepped-sent e p)
+
+  -- stand_up
+  pub stand-leaves : {before : List ℕ} {r : Outcome} {after : List ℕ} → BoxStood P x before r after → Stays P x (r .state) × Sent P (x .core .own) (r .records) (r .used) after
+  stand-leaves {before} p = let e = stood-every P x (length before) L in (said-stays e (p .says), stepped-sent e p)
+
+  -- cut_off
+  pub cut-leaves : {r : Outcome} → BoxCut P x r → Stays P x (r .state)
+  cut-leaves p = said-stays (cut-off-every P x L) p
+
+-- ---- a post
+
+-- post_job: from the office, under a sound plan
+pub post-leaves : {P : Plan} {j : ℕ} {before : List ℕ} {p : Posted} {after : List ℕ} → planSound P ≡ true → JobPosted P j before p after
+    → Sent P (officeOf P) (p .records) (p .used) after
+post-leaves {P} {j} {before} {p} {after} s h = go (mayPost P j (length before)) refl
+  where
+    go : (a : Answer) → mayPost P j (length before) ≡ a → Sent P (officeOf P) (p .records) (p .used) after
+    go Done e =
+        sent (p .records) (p .used) before after s (posts-good P j s) (posts-fit P j s) (h .records ∙ rw e) (h .used ∙ rw e) (h .tray ∙ rw e)
+    go (No n) e =
+        sent (p .records) (p .used) before after s good-nil (fits-none P) (h .records ∙ rw e) (h .used ∙ rw e) (h .tray ∙ rw e)
