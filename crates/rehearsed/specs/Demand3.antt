@@ -20,9 +20,9 @@ use Rattle.boxes.specs.declared.BoxState.{BoxState}
 use Rattle.boxes.specs.declared.Delivery.{Delivery}
 use Rattle.world.specs.World as Worlds
 use Rattle.world.specs.World.{World, boxAt, new, run}
-use Rattle.safety.specs.Demand3Words as WorldWords
-use Rattle.safety.specs.Demand3Words.{Rises, ListBegins, Delivered}
-use Rattle.safety.specs.Demand3 as WorldDemand
+use Rattle.demand3.specs.Words as WorldWords
+use Rattle.demand3.specs.Words.{Rises, ListBegins, Delivered}
+use Rattle.safety.specs.Proved as Proved
 use Rattle.reach.specs.Reached.{Reached, given-turned}
 use Rattle.keeps.specs.Sends.{every-does}
 use Rattle.rehearsal.specs.Night as Nights
@@ -123,7 +123,7 @@ module _ (P : Plan) (sound : planSound P ≡ true) (lent : List ℕ) where
 
   pub demand3 : Demand3 P lent
   demand3 =
-      let D = WorldDemand.demand3 P sound in
+      let D = Proved.demand3 P sound in
       record {
         one-stamp = λ os later m s t a c. D .one-stamp (orders os) (later-orders os later) m s t (final-world os m s a) (final-then os later m t c);
         own-stamp = λ os later m k s a c. D .own-stamp (orders os) (later-orders os later) m k s (final-world os m s a) (final-then os later k s c);
@@ -146,4 +146,4 @@ module _ (P : Plan) (sound : planSound P ≡ true) (lent : List ℕ) where
           let h = whose-same R S o (done-exists P w (told o) g) in
           let b = every-does (given-turned R (told o)) g .low in
           subst (λ (x : BoxState). Delivered x y d) (sym (ap (boxOn (afterwards P lent os)) h ∙ box-at os (Worlds.whose w (told o)) b))
-          (WorldDemand.demand3 P sound .list-delivers (orders os) (told o) y l d g)
+          (Proved.demand3 P sound .list-delivers (orders os) (told o) y l d g)

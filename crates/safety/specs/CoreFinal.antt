@@ -17,12 +17,12 @@ use Rattle.plans.specs.declared.Plan.{Plan}
 use Rattle.records.specs.Rec.{Rec, deliver}
 use Rattle.boxes.specs.Box.{rowAt}
 use Rattle.world.specs.World.{World, Order, new}
+use Rattle.demand3.specs.Words.{after, Shows, committed, written, FinalStamp, HandsOut, HandedBefore}
 use Rattle.safety.specs.Notions.{DelAt, Cert}
 use Rattle.safety.specs.Inv.{Inv}
 use Rattle.safety.specs.CoreOrder.{Earlier, del-of, d3s}
 use Rattle.safety.specs.CoreGrows.{then-grows}
 use Rattle.safety.specs.Grow.{cert-up}
-use Rattle.safety.specs.Demand3Words.{after, Shows, committed, written, FinalStamp, HandsOut, HandedBefore}
 
 -- a certificate of job m with stamp s
 pub record Certified (P : Plan) (l : List Rec) (m : ℕ) (s : Stamp) : Type 0 where

@@ -26,7 +26,7 @@ use Rattle.boxes.specs.declared.BoxState.{BoxState}
 use Rattle.boxes.specs.declared.Delivery.{Delivery}
 use Rattle.boxes.specs.declared.Delivery.the-variants.{Nothing}
 use Rattle.world.specs.World.{World, Order, post, stand as standing, retry as retrying, cut as cutting, carry, boxAt, recordAt, whose, acts, given, finish, step, run}
-use Rattle.safety.specs.Demand3Words.{SameList, Delivered, none, one, ListBegins}
+use Rattle.demand3.specs.Words.{SameList, Delivered, none, one, ListBegins}
 
 -- an outcome that does something delivers fairly
 pub record Fair (x : BoxState) (a : Out) : Type 0 where

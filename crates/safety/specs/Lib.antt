@@ -1,11 +1,10 @@
 -- Demand 3: the order theorem of White-Box Atomic Multicast over the world's steps. Nothing rests on this crate.
--- The theorem stands in Demand3, its words in Demand3Words; the invariants in Inv, their words in Notions.
+-- What is proved stands in the crate demand3, the theorem in Proved; the invariants in Inv, their words in Notions.
 -- words and statements
 pub mod Compare
 pub mod Quorate
 pub mod Notions
 pub mod Inv
-pub mod Demand3Words
 -- a step as a move
 pub mod Laws
 pub mod Sound
@@ -40,4 +39,4 @@ pub mod Run
 pub mod CoreGrows
 pub mod CoreLists
 pub mod CoreFinal
-pub mod Demand3
+pub mod Proved

@@ -1,0 +1,53 @@
+-- DEMAND 3, in full: what is to hold of every run of a plan, from fresh boxes, under any orders, at every moment. Its words stand in Words.
+-- The post has no limit here. Orders are carried late, often or never, in any order; leaders stand against each other; cuts forget.
+use Prim.Native.Nat.{ℕ, _<_}
+use mathlib.Core.Bool.{true}
+use mathlib.Core.List.{List, _++_}
+use mathlib.Core.Path.{_≡_}
+use Rattle.house.specs.Pairs.{stampLt}
+use Rattle.house.specs.declared.Stamp.{Stamp}
+use Rattle.house.specs.declared.Ballot.{Ballot}
+use Rattle.house.specs.declared.BoxNo.{BoxNo}
+use Rattle.plans.specs.Plan.{boxesOf, homeOf, names}
+use Rattle.plans.specs.declared.Plan.{Plan}
+use Rattle.records.specs.Rec.{Rec}
+use Rattle.boxes.specs.Out.{does}
+use Rattle.boxes.specs.declared.BoxState.{BoxState}
+use Rattle.boxes.specs.declared.Delivery.{Delivery}
+use Rattle.world.specs.World.{Order, boxAt, given, whose}
+use Rattle.demand3.specs.Words.{after, FinalStamp, Rises, ListBegins, Delivered, HandsOut, HandedBefore}
+
+-- (1) a job has one final stamp: two of them, at whatever moments of a run and of whatever continues it, are equal
+abbrev pub OneStamp : Plan → Type 0
+OneStamp P = (os later : List Order) (m : ℕ) (s t : Stamp) → FinalStamp P os m s → FinalStamp P (os ++ later) m t → s ≡ t
+
+-- and two jobs never share one
+abbrev pub OwnStamp : Plan → Type 0
+OwnStamp P = (os later : List Order) (m k : ℕ) (s : Stamp) → FinalStamp P os m s → FinalStamp P (os ++ later) k s → m ≡ k
+
+-- (2) each box delivers by rising stamp: its list rises at every moment,
+abbrev pub ListRises : Plan → Type 0
+ListRises P = (os : List Order) (p : ℕ) → p < boxesOf P → Rises (boxAt (after P os) p)
+
+-- later orders only append to it,
+abbrev pub ListGrows : Plan → Type 0
+ListGrows P = (os later : List Order) (p : ℕ) → p < boxesOf P → ListBegins (boxAt (after P os) p) (boxAt (after P (os ++ later)) p)
+
+-- and what an order delivers is what the list of its box gets
+abbrev pub ListDelivers : Plan → Type 0
+ListDelivers P = (os : List Order) (o : Order) (y : BoxState) (l : List Rec) (d : Delivery) → given P (after P os) o ≡ does y l d
+    → Delivered (boxAt (after P os) (whose (after P os) o)) y d
+
+-- (3) when a leader p hands out job m with stamp s, then every job k that names p's district and that ever gets a final stamp t below s
+-- has been handed out in the district before, with that stamp: by the same leader, in the same ballot
+abbrev pub HandsInOrder : Plan → Type 0
+HandsInOrder P = (os later : List Order) (i m k : ℕ) (p : BoxNo) (b : Ballot) (s t : Stamp) → HandsOut (after P os .post) i p m b s → names P k (homeOf P p) ≡ true
+    → FinalStamp P (os ++ later) k t → stampLt t s ≡ true → HandedBefore (after P os .post) i p k b t
+
+pub record Demand3 (P : Plan) : Type 0 where
+  pub one-stamp : OneStamp P
+  pub own-stamp : OwnStamp P
+  pub list-rises : ListRises P
+  pub list-grows : ListGrows P
+  pub list-delivers : ListDelivers P
+  pub handed-before : HandsInOrder P
