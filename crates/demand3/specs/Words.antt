@@ -10,7 +10,7 @@ use Rattle.house.specs.Pairs.{stampLt}
 use Rattle.house.specs.declared.Stamp.{Stamp}
 use Rattle.house.specs.declared.Ballot.{Ballot}
 use Rattle.house.specs.declared.BoxNo.{BoxNo}
-use Rattle.plans.specs.Plan.{boxesOf}
+use Rattle.plans.specs.Plan.{boxesOf, homeOf}
 use Rattle.plans.specs.declared.Plan.{Plan}
 use Rattle.records.specs.Rec.{Rec, Handout, deliver}
 use Rattle.boxes.specs.Box.{rowAt, listedAt}
@@ -60,14 +60,19 @@ pub data Delivered (x y : BoxState) (d : Delivery) : Type 0 where
 
 -- ---- handed out
 
--- at place i of the post stands a DELIVER of job m with stamp s, written by box p as leader of ballot b
+-- at place i of the post stands a DELIVER of job m with stamp s, written by box p as leader of ballot b: to whichever box
 pub record HandsOut (l : List Rec) (i : ℕ) (p : BoxNo) (m : ℕ) (b : Ballot) (s : Stamp) : Type 0 where
   pub to : BoxNo
   pub local : Stamp
   pub there : At l i (deliver p to m (record { ballot = b; local = local; global = s }))
 
--- such a DELIVER stands before place i; earlier in the same step counts
-pub record HandedBefore (l : List Rec) (i : ℕ) (p : BoxNo) (m : ℕ) (b : Ballot) (s : Stamp) : Type 0 where
+-- such a DELIVER to box q stands before place i; earlier in the same step counts
+pub record HandedTo (l : List Rec) (i : ℕ) (p q : BoxNo) (m : ℕ) (b : Ballot) (s : Stamp) : Type 0 where
   pub place : ℕ
   pub before : place < i
-  pub hands : HandsOut l place p m b s
+  pub local : Stamp
+  pub there : At l place (deliver p q m (record { ballot = b; local = local; global = s }))
+
+-- the job has been handed out in p's district before place i: its DELIVERs to all boxes of the district are written
+pub record HandedBefore (P : Plan) (l : List Rec) (i : ℕ) (p : BoxNo) (m : ℕ) (b : Ballot) (s : Stamp) : Type 0 where
+  pub each : (q : BoxNo) → q .0 < boxesOf P → homeOf P q ≡ homeOf P p → HandedTo l i p q m b s

@@ -45,8 +45,8 @@ pub record Demand3 (P : Plan) (lent : List ℕ) : Type 0 where
   -- and what an order delivers is what the list of its box gets
   pub list-delivers : (os : List Order) (o : Order) (y : BoxState) (l : List Rec) (d : Delivery) → answered P (afterwards P lent os) o ≡ does y l d
       → Delivered (boxOn (afterwards P lent os) (Nights.whose P (afterwards P lent os .night) (afterwards P lent os .post) o)) y d
-  -- (3) when a leader p hands out job m with stamp s, then every job k that names p's district and that ever gets a final stamp t below s
-  -- has been handed out in the district before, with that stamp: by the same leader, in the same ballot
+  -- (3) when a leader p hands out job m with stamp s, to whichever box first, then every job k that names p's district and that ever gets a
+  -- final stamp t below s has been handed out in the district before, with that stamp: to all its boxes, by the same leader, in the same ballot
   pub handed-before : (os later : List Order) (i m k : ℕ) (p : BoxNo) (b : Ballot) (s t : Stamp) → HandsOut P (afterwards P lent os) i p m b s → names P k (homeOf P p) ≡ true
       → FinalStamp P lent (os ++ later) k t → stampLt t s ≡ true → HandedBefore P (afterwards P lent os) i p k b t
 
@@ -77,13 +77,9 @@ module _ {P : Plan} {r : Stage} {w : World} (R : Reached P w) (S : Beside P r w)
   hands-world : (i : ℕ) (p : BoxNo) (m : ℕ) (b : Ballot) (s : Stamp) → HandsOut P r i p m b s → WorldWords.HandsOut (w .post) i p m b s
   hands-world i p m b s h = record { to = h .to; local = h .local; there = says-at i _ (h .there) }
 
-  handed-here : (i : ℕ) (p : BoxNo) (m : ℕ) (b : Ballot) (s : Stamp) → WorldWords.HandedBefore (w .post) i p m b s → HandedBefore P r i p m b s
+  handed-here : (i : ℕ) (p : BoxNo) (m : ℕ) (b : Ballot) (s : Stamp) → WorldWords.HandedBefore P (w .post) i p m b s → HandedBefore P r i p m b s
   handed-here i p m b s h =
-      record {
-        place = h .place;
-        before = h .before;
-        hands = record { to = h .hands .to; local = h .hands .local; there = at-says (h .place) _ (h .hands .there) };
-      }
+      record { each = λ q l e. let g = h .each q l e in record { place = g .place; before = g .before; local = g .local; there = at-says (g .place) _ (g .there) } }
 
 -- ---- DEMAND 3 holds of every rehearsal
 

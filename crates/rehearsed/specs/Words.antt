@@ -6,7 +6,7 @@ use mathlib.Core.Path.{_≡_}
 use Rattle.house.specs.declared.Stamp.{Stamp}
 use Rattle.house.specs.declared.Ballot.{Ballot}
 use Rattle.house.specs.declared.BoxNo.{BoxNo}
-use Rattle.plans.specs.Plan.{boxesOf}
+use Rattle.plans.specs.Plan.{boxesOf, homeOf}
 use Rattle.plans.specs.declared.Plan.{Plan}
 use Rattle.records.specs.Rec.{Rec, Handout, deliver}
 use Rattle.boxes.specs.Box.{rowAt}
@@ -44,14 +44,19 @@ pub record FinalStamp (P : Plan) (lent : List ℕ) (os : List Order) (m : ℕ) (
 
 -- ---- handed out
 
--- record i is a DELIVER of job m with stamp s, written by box p as leader of ballot b
+-- record i is a DELIVER of job m with stamp s, written by box p as leader of ballot b: to whichever box
 pub record HandsOut (P : Plan) (r : Stage) (i : ℕ) (p : BoxNo) (m : ℕ) (b : Ballot) (s : Stamp) : Type 0 where
   pub to : BoxNo
   pub local : Stamp
   pub there : Says P r i (deliver p to m (record { ballot = b; local = local; global = s }))
 
--- such a record stands before record i
-pub record HandedBefore (P : Plan) (r : Stage) (i : ℕ) (p : BoxNo) (m : ℕ) (b : Ballot) (s : Stamp) : Type 0 where
+-- such a record to box q stands before record i
+pub record HandedTo (P : Plan) (r : Stage) (i : ℕ) (p q : BoxNo) (m : ℕ) (b : Ballot) (s : Stamp) : Type 0 where
   pub place : ℕ
   pub before : place < i
-  pub hands : HandsOut P r place p m b s
+  pub local : Stamp
+  pub there : Says P r place (deliver p q m (record { ballot = b; local = local; global = s }))
+
+-- the job has been handed out in p's district before record i: its DELIVERs to all boxes of the district are written
+pub record HandedBefore (P : Plan) (r : Stage) (i : ℕ) (p : BoxNo) (m : ℕ) (b : Ballot) (s : Stamp) : Type 0 where
+  pub each : (q : BoxNo) → q .0 < boxesOf P → homeOf P q ≡ homeOf P p → HandedTo P r i p q m b s

@@ -20,7 +20,8 @@ use Rattle.world.specs.World.{World, Order, new}
 use Rattle.demand3.specs.Words.{after, Shows, committed, written, FinalStamp, HandsOut, HandedBefore}
 use Rattle.safety.specs.Notions.{DelAt, Cert}
 use Rattle.safety.specs.Inv.{Inv}
-use Rattle.safety.specs.CoreOrder.{Earlier, del-of, d3s}
+use Rattle.safety.specs.CoreOrder.{Earlier, del-of, other, d3s}
+use Rattle.safety.specs.Blocks.{Whole}
 use Rattle.safety.specs.CoreGrows.{then-grows}
 use Rattle.safety.specs.Grow.{cert-up}
 
@@ -50,11 +51,15 @@ final-cert {P} {os} {m} {s} I F =
     let c = shows-cert (I (F .first)) (F .shows) in
     subst (λ (l : List Order). Certified P (after P l .post) m s) (sym (F .split)) (record { vector = c .vector; cert = cert-up (then-grows P (new P) (F .first) (F .rest)) (c .cert) })
 
--- D3s, in a world whose post begins with l: what stands before a place of l stands in l
-pub handed-in : {P : Plan} {w : World} {l : List Rec} {i m k : ℕ} {p : BoxNo} {b : Ballot} {s t : Stamp} → Inv P w → Begins l (w .post) → HandsOut l i p m b s
-    → names P k (homeOf P p) ≡ true → Certified P (w .post) k t → stampLt t s ≡ true → HandedBefore l i p k b t
-handed-in {P} {w} {l} {i} {m} {k} {p} {b} {s} {t} I B H n C o =
-    record { place = E .place; before = E .before; hands = record { to = E .del .to; local = E .local; there = back } }
+-- D3s, in a world whose post begins with l: what stands before a place of l stands in l, and the whole block of its job with it
+pub handed-in : {P : Plan} {w : World} {l : List Rec} {i m k : ℕ} {p : BoxNo} {b : Ballot} {s t : Stamp} → Inv P w → Begins l (w .post) → Whole P l → HandsOut l i p m b s
+    → names P k (homeOf P p) ≡ true → Certified P (w .post) k t → stampLt t s ≡ true → HandedBefore P l i p k b t
+handed-in {P} {w} {l} {i} {m} {k} {p} {b} {s} {t} I B W H n C o =
+    record {
+      each = λ q e h.
+          let r = W .ordered (E .before) (record { there = back }) (record { there = H .there }) (other I (del-of D) (C .cert) (record { says = o })) q e h in
+          record { place = r .place; before = r .before; local = E .local; there = r .there };
+    }
   where
     D : DelAt (w .post) i m b (H .local) s
     D = record { from = p; to = H .to; there = begins-at B i (H .there) }

@@ -118,16 +118,17 @@ module _ {P : Plan} {w : World} (I : Inv P w) where
         go (level e) = lam-later I a (p .quorum) (p .acc) (del-news I d) refl (eq-le ballotOrder e)
         go (over x) = i5b (acc-news I (p .acc)) (entry-home I a p) x (asked (p .acc)) under-t
 
+  -- a certificate whose stamp is below a DELIVER's is another job's
+  pub other : {m k : ℕ} {b : Ballot} {s t r : Stamp} {f : District → Ballot} → Del (w .post) m b s t → Cert P (w .post) k f r → Sooner r t → k ≢ m
+  other {r = r} {f = f} d c l e = lt-self stampOrder l (i4a I (subst (λ (j : ℕ). Cert P (w .post) j f r) e c) (I .acks .i3d d .cert))
+
   -- D3s: a job of the district with a smaller stamp was handed out before, by the same leader in the same ballot
   pub d3s : {i m k : ℕ} {b : Ballot} {s t r : Stamp} {f : District → Ballot} → DelAt (w .post) i m b s t → names P k (homeOf P (b .owner)) ≡ true
       → Cert P (w .post) k f r → Sooner r t → Earlier (w .post) i k b r
   d3s {i} {m} {k} {b} {s} {t} {r} {f} d a c l =
       let u = lam-here (del-of d) a c l in
-      go (I .hands .i5a d other (u .lam) (u .below))
+      go (I .hands .i5a d (other (del-of d) c l) (u .lam) (u .below))
     where
-      other : k ≢ m
-      other e = lt-self stampOrder l (i4a I (subst (λ (j : ℕ). Cert P (w .post) j f r) e c) (I .acks .i3d (del-of d) .cert))
-
       at : {v : Stamp} → v ≡ r → Handed (w .post) i k b t v → Earlier (w .post) i k b r
       at e (later x) = lt-self stampOrder (lt-lt stampOrder l x) (sym e)
       at e (earlier j y o x) = record { place = j; before = y; local = o; del = subst (λ (z : Stamp). DelAt (w .post) j k b o z) e x }

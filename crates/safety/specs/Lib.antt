@@ -17,6 +17,7 @@ pub mod Merging
 pub mod Pigeon
 pub mod Steps
 pub mod Origins
+pub mod Blocks
 -- inside one world
 pub mod CoreBase
 pub mod CoreTables

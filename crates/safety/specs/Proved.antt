@@ -12,6 +12,7 @@ use Rattle.world.specs.World.{World, Order, boxAt, new}
 use Rattle.demand3.specs.Words.{after, ListBegins}
 use Rattle.demand3.specs.Demand3.{Demand3, OwnStamp}
 use Rattle.safety.specs.Inv.{Inv}
+use Rattle.safety.specs.Blocks.{whole}
 use Rattle.safety.specs.CoreStamps.{i4a, i4b}
 use Rattle.safety.specs.Run.{inv-run}
 use Rattle.safety.specs.CoreGrows.{run-then, then-grows}
@@ -28,7 +29,7 @@ demand3 P sound =
       list-grows = λ os later p l. subst (λ (w : World). ListBegins (boxAt (after P os) p) (boxAt w p)) (sym (run-then P (new P) os later))
           (run-appends P (after P os) later p (omega (arith, I os .forms .size)));
       list-delivers = λ os o y l d e. fair-given P (after P os) o .says y l d e;
-      handed-before = λ os later i m k p b s t h n a o. handed-in (I (os ++ later)) (then-grows P (new P) os later) h n (final-cert I a) o;
+      handed-before = λ os later i m k p b s t h n a o. handed-in (I (os ++ later)) (then-grows P (new P) os later) (whole P os) h n (final-cert I a) o;
     }
   where
     I : (os : List Order) → Inv P (after P os)
