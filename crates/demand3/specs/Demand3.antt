@@ -11,11 +11,12 @@ use Rattle.house.specs.declared.BoxNo.{BoxNo}
 use Rattle.plans.specs.Plan.{boxesOf, homeOf, names}
 use Rattle.plans.specs.declared.Plan.{Plan}
 use Rattle.records.specs.Rec.{Rec}
+use Rattle.boxes.specs.Box.{listedAt}
 use Rattle.boxes.specs.Out.{does}
 use Rattle.boxes.specs.declared.BoxState.{BoxState}
 use Rattle.boxes.specs.declared.Delivery.{Delivery}
 use Rattle.world.specs.World.{Order, boxAt, given, whose}
-use Rattle.demand3.specs.Words.{after, FinalStamp, Rises, ListBegins, Delivered, HandsOut, HandedBefore}
+use Rattle.demand3.specs.Words.{after, FinalStamp, Rises, Once, SameOrder, ListBegins, Delivered, HandsOut, HandedBefore}
 
 -- (1) a job has one final stamp: two of them, at whatever moments of a run and of whatever continues it, are equal
 abbrev pub OneStamp : Plan → Type 0
@@ -28,6 +29,15 @@ OwnStamp P = (os later : List Order) (m k : ℕ) (s : Stamp) → FinalStamp P os
 -- (2) each box delivers by rising stamp: its list rises at every moment,
 abbrev pub ListRises : Plan → Type 0
 ListRises P = (os : List Order) (p : ℕ) → p < boxesOf P → Rises (boxAt (after P os) p)
+
+-- a job stands on it once,
+abbrev pub ListOnce : Plan → Type 0
+ListOnce P = (os : List Order) (p : ℕ) → p < boxesOf P → Once (boxAt (after P os) p)
+
+-- with its final stamp,
+abbrev pub ListFinal : Plan → Type 0
+ListFinal P = (os : List Order) (p i : ℕ) → p < boxesOf P → i < boxAt (after P os) p .core .count
+    → FinalStamp P os (listedAt (boxAt (after P os) p) i .job) (listedAt (boxAt (after P os) p) i .stamp)
 
 -- later orders only append to it,
 abbrev pub ListGrows : Plan → Type 0
@@ -48,6 +58,15 @@ pub record Demand3 (P : Plan) : Type 0 where
   pub one-stamp : OneStamp P
   pub own-stamp : OwnStamp P
   pub list-rises : ListRises P
+  pub list-once : ListOnce P
+  pub list-final : ListFinal P
   pub list-grows : ListGrows P
   pub list-delivers : ListDelivers P
   pub handed-before : HandsInOrder P
+
+-- ---- the regulator's sentence, which follows from the statements above
+
+-- any two boxes, of whatever districts, at whatever two moments of a run, have the jobs that they both have in one order
+abbrev pub OneOrder : Plan → Type 0
+OneOrder P = (first rest second more : List Order) (p q : ℕ) → first ++ rest ≡ second ++ more → p < boxesOf P → q < boxesOf P
+    → SameOrder (boxAt (after P first) p) (boxAt (after P second) q)

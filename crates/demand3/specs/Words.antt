@@ -43,6 +43,15 @@ pub record FinalStamp (P : Plan) (os : List Order) (m : ℕ) (s : Stamp) : Type 
 pub record Rises (x : BoxState) : Type 0 where
   pub says : (k i : ℕ) → k < i → i < x .core .count → stampLt (listedAt x k .stamp) (listedAt x i .stamp) ≡ true
 
+-- each job of the list stands there once
+pub record Once (x : BoxState) : Type 0 where
+  pub says : (k i : ℕ) → k < x .core .count → i < x .core .count → listedAt x k .job ≡ listedAt x i .job → k ≡ i
+
+-- x and y have the jobs that they both have in one order: a job that stands before another on the list of x stands before it on that of y
+pub record SameOrder (x y : BoxState) : Type 0 where
+  pub says : (i j k n : ℕ) → i < j → j < x .core .count → k < y .core .count → n < y .core .count
+      → listedAt x i .job ≡ listedAt y k .job → listedAt x j .job ≡ listedAt y n .job → k < n
+
 -- the list of y begins with that of x
 pub record ListBegins (x y : BoxState) : Type 0 where
   pub longer : x .core .count ≤ y .core .count

@@ -40,4 +40,5 @@ pub mod Run
 pub mod CoreGrows
 pub mod CoreLists
 pub mod CoreFinal
+pub mod OneOrder
 pub mod Proved
