@@ -16,7 +16,7 @@ use Rattle.boxes.specs.Out.{does}
 use Rattle.boxes.specs.declared.BoxState.{BoxState}
 use Rattle.boxes.specs.declared.Delivery.{Delivery}
 use Rattle.world.specs.World.{Order, boxAt, given, whose}
-use Rattle.demand3.specs.Words.{after, FinalStamp, Rises, Once, SameOrder, ListBegins, Delivered, HandsOut, HandedBefore}
+use Rattle.demand3.specs.Words.{after, Shows, FinalStamp, Rises, Once, SameOrder, ListBegins, Delivered, HandsOut, HandedBefore}
 
 -- (1) a job has one final stamp: two of them, at whatever moments of a run and of whatever continues it, are equal
 abbrev pub OneStamp : Plan → Type 0
@@ -34,10 +34,10 @@ ListRises P = (os : List Order) (p : ℕ) → p < boxesOf P → Rises (boxAt (af
 abbrev pub ListOnce : Plan → Type 0
 ListOnce P = (os : List Order) (p : ℕ) → p < boxesOf P → Once (boxAt (after P os) p)
 
--- with its final stamp,
+-- with its final stamp, which shows at that moment,
 abbrev pub ListFinal : Plan → Type 0
 ListFinal P = (os : List Order) (p i : ℕ) → p < boxesOf P → i < boxAt (after P os) p .core .count
-    → FinalStamp P os (listedAt (boxAt (after P os) p) i .job) (listedAt (boxAt (after P os) p) i .stamp)
+    → Shows P (after P os) (listedAt (boxAt (after P os) p) i .job) (listedAt (boxAt (after P os) p) i .stamp)
 
 -- later orders only append to it,
 abbrev pub ListGrows : Plan → Type 0

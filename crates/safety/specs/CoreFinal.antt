@@ -2,7 +2,7 @@
 -- From there demand 3 is read off (demand3.md, section 11).
 use Prim.Native.Nat.{ℕ, _<_}
 use mathlib.Core.Bool.{true}
-use mathlib.Core.List.{List, _++_, append-assoc}
+use mathlib.Core.List.{List, [], _++_, append-assoc, append-nil}
 use mathlib.Core.Path.{_≡_, sym, ap, subst, _∙_}
 use native.Mathlib.Omega.{arith}
 use lib.ListN.{length}
@@ -39,6 +39,10 @@ shows-cert {P} {w} {m} I (committed p l j h e) =
 shows-cert {P} {w} {m} I (written from to y h e) =
     let F = I .acks .i3d (record { from = from; to = to; there = h }) in
     record { vector = F .vector; cert = subst (λ (v : Stamp). Cert P (w .post) m (F .vector) v) e (F .cert) }
+
+-- what shows now is a final stamp
+pub final-now : {P : Plan} {os : List Order} {m : ℕ} {s : Stamp} → Shows P (after P os) m s → FinalStamp P os m s
+final-now {os = os} S = record { first = os; rest = []; split = sym (append-nil os); shows = S }
 
 -- a final stamp stays one, whatever orders follow
 pub final-later : {P : Plan} {os : List Order} {m : ℕ} {s : Stamp} → FinalStamp P os m s → (later : List Order) → FinalStamp P (os ++ later) m s

@@ -15,7 +15,7 @@ use Rattle.world.specs.World.{Order, boxAt}
 use Rattle.demand3.specs.Words.{after, FinalStamp, Rises, Once, SameOrder}
 use Rattle.demand3.specs.Demand3.{OneStamp, ListRises, ListOnce, ListFinal, Demand3, OneOrder}
 use Rattle.safety.specs.Compare.{Sooner, lt-lt, lt-self}
-use Rattle.safety.specs.CoreFinal.{final-later}
+use Rattle.safety.specs.CoreFinal.{final-now, final-later}
 
 -- a job on both lists has one stamp there
 pub record Agree (x y : BoxState) : Type 0 where
@@ -62,8 +62,8 @@ module _ {P : Plan} (one-stamp : OneStamp P) (list-rises : ListRises P) (list-fi
 
       meets : (i k : ℕ) → i < x .core .count → k < y .core .count → listedAt x i .job ≡ listedAt y k .job → listedAt x i .stamp ≡ listedAt y k .stamp
       meets i k li lk e =
-          let a : FinalStamp P (first ++ rest) (listedAt x i .job) (listedAt x i .stamp) = final-later (list-final first p i lp li) rest in
-          let b : FinalStamp P (second ++ more) (listedAt y k .job) (listedAt y k .stamp) = final-later (list-final second q k lq lk) more in
+          let a : FinalStamp P (first ++ rest) (listedAt x i .job) (listedAt x i .stamp) = final-later (final-now (list-final first p i lp li)) rest in
+          let b : FinalStamp P (second ++ more) (listedAt y k .job) (listedAt y k .stamp) = final-later (final-now (list-final second q k lq lk)) more in
           let c : FinalStamp P (first ++ rest) (listedAt x i .job) (listedAt y k .stamp) = rw (run, e) b in
           one-stamp (first ++ rest) [] (listedAt x i .job) (listedAt x i .stamp) (listedAt y k .stamp) a (final-later c [])
 

@@ -1,7 +1,7 @@
 -- DEMAND 3 is proved: each of its statements is read off the invariants of a run's last world.
 -- What is proved stands in the crate demand3.
 use mathlib.Core.Bool.{true}
-use mathlib.Core.List.{List, [], _++_, append-nil}
+use mathlib.Core.List.{List, _++_}
 use mathlib.Core.Path.{_≡_, refl, sym, subst}
 use native.Mathlib.Omega.{arith}
 use native.Mathlib.Decide.{ℕ-discrete}
@@ -41,7 +41,7 @@ module _ (P : Plan) (sound : planSound P ≡ true) where
   list-final : ListFinal P
   list-final os p i l h =
       let D = I os .hands .d1 (boxNo p) l i h in
-      record { first = os; rest = []; split = sym (append-nil os); shows = written (D .del .from) (D .del .to) _ (D .del .there) refl }
+      written (D .del .from) (D .del .to) _ (D .del .there) refl
 
   list-grows : ListGrows P
   list-grows os later p l =
