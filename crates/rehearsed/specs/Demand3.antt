@@ -1,37 +1,25 @@
--- DEMAND 3 of every rehearsal of a sound plan: any orders, any lent post, at every moment, over the boxes and the post's bytes.
--- Each moment of a rehearsal is a moment of the world's run over the orders that 12 did not refuse.
+-- DEMAND 3 of a rehearsal: any orders, any lent post, at every moment, over the boxes and the post's bytes. Its words stand in Words.
+-- The statements are those of the crate demand3; nothing is proved here.
 use Prim.Native.Nat.{ℕ, _<_}
 use mathlib.Core.Bool.{true}
 use mathlib.Core.List.{List, _++_}
-use mathlib.Core.Path.{_≡_, sym, ap, subst, subst₂, _∙_}
-use lib.ListN.{length}
-use borrow.Author.Tests.{ltb-true, lt-ltb}
-use Rattle.laws.specs.Place.{At, at-lt, at-getD, getD-at-is}
+use mathlib.Core.Path.{_≡_}
 use Rattle.house.specs.Pairs.{stampLt}
 use Rattle.house.specs.declared.Stamp.{Stamp}
 use Rattle.house.specs.declared.Ballot.{Ballot}
 use Rattle.house.specs.declared.BoxNo.{BoxNo}
-use Rattle.plans.specs.Plan.{boxesOf, homeOf, names, planSound}
+use Rattle.plans.specs.Plan.{boxesOf, homeOf, names}
 use Rattle.plans.specs.declared.Plan.{Plan}
-use Rattle.records.specs.Rec.{Rec, unknown}
-use Rattle.boxes.specs.Box.{rowAt}
+use Rattle.records.specs.Rec.{Rec}
+use Rattle.boxes.specs.Box.{listedAt}
 use Rattle.boxes.specs.Out.{does}
 use Rattle.boxes.specs.declared.BoxState.{BoxState}
 use Rattle.boxes.specs.declared.Delivery.{Delivery}
-use Rattle.world.specs.World as Worlds
-use Rattle.world.specs.World.{World, boxAt, new, run}
-use Rattle.demand3.specs.Words as WorldWords
-use Rattle.demand3.specs.Words.{Rises, ListBegins, Delivered}
-use Rattle.safety.specs.Proved as Proved
-use Rattle.reach.specs.Reached.{Reached, given-turned}
-use Rattle.keeps.specs.Sends.{every-does}
-use Rattle.rehearsal.specs.Night as Nights
-use Rattle.posting.specs.Posting.{startOf}
+use Rattle.demand3.specs.Words.{Rises, Once, SameOrder, ListBegins, Delivered}
+use Rattle.rehearsal.specs.Night.{whose}
 use Rattle.rehearsal.specs.declared.Order.{Order}
-use Rattle.nights.specs.Same.{told, inside-same, box-same, whose-same}
-use Rattle.nights.specs.Turns.{done-exists}
-use Rattle.nights.specs.Runs.{Stage, rehearsed, beginning, answered, isFull, kept, Beside, kept-then, step-answer, rehearsal-beside, rehearsal-reached, said-same}
-use Rattle.rehearsed.specs.Words.{afterwards, boxOn, Says, Shows, committed, written, FinalStamp, HandsOut, HandedBefore}
+use Rattle.nights.specs.Runs.{answered}
+use Rattle.rehearsed.specs.Words.{afterwards, boxOn, Shows, FinalStamp, HandsOut, HandedBefore}
 
 pub record Demand3 (P : Plan) (lent : List ℕ) : Type 0 where
   -- (1) a job has one final stamp: two of them, at whatever moments of a rehearsal and of whatever continues it, are equal
@@ -40,106 +28,22 @@ pub record Demand3 (P : Plan) (lent : List ℕ) : Type 0 where
   pub own-stamp : (os later : List Order) (m k : ℕ) (s : Stamp) → FinalStamp P lent os m s → FinalStamp P lent (os ++ later) k s → m ≡ k
   -- (2) each box delivers by rising stamp: its list rises at every moment,
   pub list-rises : (os : List Order) (p : ℕ) → p < boxesOf P → Rises (boxOn (afterwards P lent os) p)
+  -- a job stands on it once,
+  pub list-once : (os : List Order) (p : ℕ) → p < boxesOf P → Once (boxOn (afterwards P lent os) p)
+  -- with its final stamp, which shows at that moment,
+  pub list-final : (os : List Order) (p i : ℕ) → p < boxesOf P → i < boxOn (afterwards P lent os) p .core .count
+      → Shows P (afterwards P lent os) (listedAt (boxOn (afterwards P lent os) p) i .job) (listedAt (boxOn (afterwards P lent os) p) i .stamp)
   -- later orders only append to it,
   pub list-grows : (os later : List Order) (p : ℕ) → p < boxesOf P → ListBegins (boxOn (afterwards P lent os) p) (boxOn (afterwards P lent (os ++ later)) p)
   -- and what an order delivers is what the list of its box gets
   pub list-delivers : (os : List Order) (o : Order) (y : BoxState) (l : List Rec) (d : Delivery) → answered P (afterwards P lent os) o ≡ does y l d
-      → Delivered (boxOn (afterwards P lent os) (Nights.whose P (afterwards P lent os .night) (afterwards P lent os .post) o)) y d
+      → Delivered (boxOn (afterwards P lent os) (whose P (afterwards P lent os .night) (afterwards P lent os .post) o)) y d
   -- (3) when a leader p hands out job m with stamp s, to whichever box first, then every job k that names p's district and that ever gets a
   -- final stamp t below s has been handed out in the district before, with that stamp: to all its boxes, by the same leader, in the same ballot
   pub handed-before : (os later : List Order) (i m k : ℕ) (p : BoxNo) (b : Ballot) (s t : Stamp) → HandsOut P (afterwards P lent os) i p m b s → names P k (homeOf P p) ≡ true
       → FinalStamp P lent (os ++ later) k t → stampLt t s ≡ true → HandedBefore P (afterwards P lent os) i p k b t
 
--- ---- a moment of a rehearsal beside its world
-
-module _ {P : Plan} {r : Stage} {w : World} (R : Reached P w) (S : Beside P r w) where
-  -- what the bytes say stands in the world's post at that place, and back
-  says-at : (k : ℕ) (m : Rec) → Says P r k m → At (w .post) k m
-  says-at k m h =
-      let e = sym (inside-same R S k) ∙ lt-ltb (startOf P (r .post) (r .night .used) k) (r .night .used) (h .inside) in
-      let l = ltb-true k (length (w .post)) e in
-      subst (λ (x : Rec). At (w .post) k x) (sym (said-same R S k l) ∙ h .says) (at-getD (w .post) k unknown l)
-
-  at-says : (k : ℕ) (m : Rec) → At (w .post) k m → Says P r k m
-  at-says k m a =
-      let l = at-lt (w .post) k a in
-      record {
-        inside = ltb-true (startOf P (r .post) (r .night .used) k) (r .night .used) (inside-same R S k ∙ lt-ltb k (length (w .post)) l);
-        says = said-same R S k l ∙ getD-at-is (w .post) k unknown a;
-      }
-
-  shows-world : (m : ℕ) (s : Stamp) → Shows P r m s → WorldWords.Shows P w m s
-  shows-world m s (committed p l j h g) =
-      let e = box-same R S p l in
-      WorldWords.committed p l j (ap (λ (x : BoxState). rowAt x m .phase) (sym e) ∙ h) (ap (λ (x : BoxState). rowAt x m .global) (sym e) ∙ g)
-  shows-world m s (written k from to y h g) = WorldWords.written from to y (record { place = k; there = says-at k _ h }) g
-
-  hands-world : (i : ℕ) (p : BoxNo) (m : ℕ) (b : Ballot) (s : Stamp) → HandsOut P r i p m b s → WorldWords.HandsOut (w .post) i p m b s
-  hands-world i p m b s h = record { to = h .to; local = h .local; there = says-at i _ (h .there) }
-
-  handed-here : (i : ℕ) (p : BoxNo) (m : ℕ) (b : Ballot) (s : Stamp) → WorldWords.HandedBefore P (w .post) i p m b s → HandedBefore P r i p m b s
-  handed-here i p m b s h =
-      record { each = λ q l e. let g = h .each q l e in record { place = g .place; before = g .before; local = g .local; there = at-says (g .place) _ (g .there) } }
-
--- ---- DEMAND 3 holds of every rehearsal
-
-module _ (P : Plan) (sound : planSound P ≡ true) (lent : List ℕ) where
-  orders : List Order → List Worlds.Order
-  orders os = kept P (beginning lent) os
-
-  later-orders : List Order → List Order → List Worlds.Order
-  later-orders os later = kept P (rehearsed P (beginning lent) os) later
-
-  reached-at : (os : List Order) → Reached P (run P (new P) (orders os))
-  unfolding orders
-  reached-at os = rehearsal-reached P sound lent os
-
-  beside-at : (os : List Order) → Beside P (afterwards P lent os) (run P (new P) (orders os))
-  unfolding orders
-  beside-at os = rehearsal-beside P sound lent os
-
-  orders-then : (os later : List Order) → orders (os ++ later) ≡ orders os ++ later-orders os later
-  unfolding orders later-orders
-  orders-then os later = kept-then P (beginning lent) os later
-
-  final-world : (os : List Order) (m : ℕ) (s : Stamp) → FinalStamp P lent os m s → WorldWords.FinalStamp P (orders os) m s
-  final-world os m s f =
-      record {
-        first = orders (f .first);
-        rest = later-orders (f .first) (f .rest);
-        split = ap orders (f .split) ∙ orders-then (f .first) (f .rest);
-        shows = shows-world (reached-at (f .first)) (beside-at (f .first)) m s (f .shows);
-      }
-
-  final-then : (os later : List Order) (m : ℕ) (s : Stamp) → FinalStamp P lent (os ++ later) m s → WorldWords.FinalStamp P (orders os ++ later-orders os later) m s
-  final-then os later m s f = subst (λ (x : List Worlds.Order). WorldWords.FinalStamp P x m s) (orders-then os later) (final-world (os ++ later) m s f)
-
-  box-at : (os : List Order) (p : ℕ) → p < boxesOf P → boxOn (afterwards P lent os) p ≡ boxAt (run P (new P) (orders os)) p
-  box-at os p l = box-same (reached-at os) (beside-at os) p l
-
-  pub demand3 : Demand3 P lent
-  demand3 =
-      let D = Proved.demand3 P sound in
-      record {
-        one-stamp = λ os later m s t a c. D .one-stamp (orders os) (later-orders os later) m s t (final-world os m s a) (final-then os later m t c);
-        own-stamp = λ os later m k s a c. D .own-stamp (orders os) (later-orders os later) m k s (final-world os m s a) (final-then os later k s c);
-        list-rises = λ os p l. subst Rises (sym (box-at os p l)) (D .list-rises (orders os) p l);
-        list-grows = λ os later p l.
-            subst₂ ListBegins (sym (box-at os p l))
-            (ap (λ (x : List Worlds.Order). boxAt (run P (new P) x) p) (sym (orders-then os later)) ∙ sym (box-at (os ++ later) p l))
-            (D .list-grows (orders os) (later-orders os later) p l);
-        list-delivers = delivers;
-        handed-before = λ os later i m k p b s t h n f o.
-            handed-here (reached-at os) (beside-at os) i p k b t
-            (D .handed-before (orders os) (later-orders os later) i m k p b s t (hands-world (reached-at os) (beside-at os) i p m b s h) n (final-then os later k t f) o);
-      }
-    where
-      delivers : (os : List Order) (o : Order) (y : BoxState) (l : List Rec) (d : Delivery) → answered P (afterwards P lent os) o ≡ does y l d
-          → Delivered (boxOn (afterwards P lent os) (Nights.whose P (afterwards P lent os .night) (afterwards P lent os .post) o)) y d
-      delivers os o y l d e =
-          let R = reached-at os in let S = beside-at os in let w = run P (new P) (orders os) in
-          let g : Worlds.given P w (told o) ≡ does y l d = sym (step-answer R S o (ap isFull e)) ∙ e in
-          let h = whose-same R S o (done-exists P w (told o) g) in
-          let b = every-does (given-turned R (told o)) g .low in
-          subst (λ (x : BoxState). Delivered x y d) (sym (ap (boxOn (afterwards P lent os)) h ∙ box-at os (Worlds.whose w (told o)) b))
-          (Proved.demand3 P sound .list-delivers (orders os) (told o) y l d g)
+-- the regulator's sentence: any two boxes, of whatever districts, at whatever two moments of a rehearsal, have the jobs that they both have in one order
+abbrev pub OneOrder : Plan → List ℕ → Type 0
+OneOrder P lent = (first rest second more : List Order) (p q : ℕ) → first ++ rest ≡ second ++ more → p < boxesOf P → q < boxesOf P
+    → SameOrder (boxOn (afterwards P lent first) p) (boxOn (afterwards P lent second) q)

@@ -1,3 +1,4 @@
--- Demand 3 holds of every rehearsal, over its boxes and the bytes of its post.
+-- Demand 3 and the regulator's sentence hold of every rehearsal, over its boxes and the bytes of its post.
 pub mod Words
 pub mod Demand3
+pub mod Proved
