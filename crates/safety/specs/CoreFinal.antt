@@ -1,5 +1,5 @@
 -- A final stamp is the stamp of a certificate, and certificates stay: so all final stamps of a run meet in its last world.
--- From there demand 3 is read off (demand3.md, section 11).
+-- From there demand 3 is read off (docs/PROOF.md, 'Demand 3 read off').
 use Prim.Native.Nat.{ℕ, _<_}
 use mathlib.Core.Bool.{true}
 use mathlib.Core.List.{List, [], _++_, append-assoc, append-nil}

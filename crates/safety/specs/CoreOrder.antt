@@ -1,4 +1,4 @@
--- What was handed out before, and what a list says of tables (demand3.md, section 10: I5b, D3s, R5, R5w), and the record of STATE lemmas.
+-- What was handed out before, and what a list says of tables (docs/PROOF.md: I5b, D3s, R5, R5w), and the record of STATE lemmas.
 -- I5b is by strong induction on the higher ballot.
 use Prim.Native.Nat.{ℕ, _≤_, _<_}
 use mathlib.Core.Bool.{true}
@@ -157,7 +157,7 @@ module _ {P : Plan} {w : World} (I : Inv P w) where
       let lower = le-then-lt ballotOrder (D .upto) (le-ne ballotOrder (B .order) apart) in
       handed-kept (D .del) n home (subst (λ (b : Ballot). Lower (D .ballot) b) (sym e) lower)
 
-  -- the same of a valid record to q, as its box tests it: recovering, ballot equal; so no refusal 15 of request R-5
+  -- the same of a valid record to q, as its box tests it: recovering, ballot equal (what request R-5 of document 02 asks to show)
   pub r5-record : (from q : BoxNo) (y : NewState) → In (new-state from q y) (w .post) → valid P (carried (new-state from q y)) ≡ true → q .0 < boxesOf P
       → isRecovering (the w q .core .status) ≡ true → y .ballot ≡ the w q .core .ballot → (i : ℕ) → i < the w q .core .count
       → rowIn (y .table) (listedAt (the w q) i .job) .phase ≢ 0

@@ -1,4 +1,4 @@
--- One job has one stamp, two jobs have two (demand3.md, section 10: G1, J2, J4L, I4a, I4b).
+-- One job has one stamp, two jobs have two (docs/PROOF.md, 'Inside one world': G1, J2, J4L, I4a, I4b).
 -- Local stamps are compared inside one ballot, where I2n brings those of lower ballots.
 use Prim.Native.Nat.{ℕ, _≤_, _<_}
 use mathlib.Core.Bool.{true}

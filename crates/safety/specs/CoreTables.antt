@@ -1,4 +1,4 @@
--- What a quorum acknowledged stays in every later NEW_STATE, table and vote (demand3.md, section 10: C1n, I3n, I2n, I2b, I2v, PAR).
+-- What a quorum acknowledged stays in every later NEW_STATE, table and vote (docs/PROOF.md: C1n, I3n, I2n, I2b, I2v, PAR).
 -- I2n is by strong induction on the ballot of the NEW_STATE, for all jobs and vectors at once.
 use Prim.Native.Nat.{ℕ, _≤_, _<_}
 use mathlib.Core.Bool.{true}

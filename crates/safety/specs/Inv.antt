@@ -1,4 +1,4 @@
--- All STEP invariants of demand3.md, sections 3 to 9, as statements about one world: what every order keeps.
+-- All STEP invariants as statements about one world: what every order keeps. docs/PROOF.md tells each by its label.
 -- Record kinds are quantified over the post, boxes over the plan's box numbers; jobs of a table are below the plan's jobs.
 use Prim.Native.Nat.{ℕ, _*_, _≤_, _<_}
 use mathlib.Core.Bool.{true, false}
@@ -87,7 +87,7 @@ pub record Forms (P : Plan) (w : World) : Type 0 where
   pub news : {y : NewState} → News (w .post) y → NewsForm P y
   pub nsa : {p : BoxNo} {b : Ballot} → Nsa (w .post) p b → homeOf P p ≡ homeOf P (b .owner)
 
--- ---- 3. ballots
+-- ---- ballots
 
 pub record Ballots (P : Plan) (w : World) : Type 0 where
   -- B1: who voted for b has ballot b or a higher one
@@ -114,7 +114,7 @@ pub record Ballots (P : Plan) (w : World) : Type 0 where
   pub b7 : (p : BoxNo) → p .0 < boxesOf P → isRecovering (the w p .core .status) ≡ true → the w p .core .cballot ≡ the w p .core .ballot
       → p ≡ the w p .core .ballot .owner
 
--- ---- 4. volatile parts
+-- ---- volatile parts
 
 -- a kept vote stands in the post
 pub record KeptVote (l : List Rec) (v : Vote) (b : Ballot) : Type 0 where
@@ -155,12 +155,12 @@ pub record Held (P : Plan) (l : List Rec) (g : District) (c : Ballot) (k : ℕ) 
   -- I3: behind a commitment stands a certificate
   pub i3 : (m : ℕ) → m < P .jobs → rowIn t m .phase ≡ 3 → Final P l m g c (rowIn t m .local) (rowIn t m .global)
 
--- B3b B9b L2b J3b J4b C1b I3b, and the same of votes (..v)
+-- B3b B9b L2b J3b J4b C1b I3b of boxes, B3v B9v L2v J3v J4v C1v I3v of votes
 pub record Holds (P : Plan) (w : World) : Type 0 where
   pub of-box : (p : BoxNo) → p .0 < boxesOf P → Held P (w .post) (homeOf P p) (the w p .core .cballot) (the w p .core .clock) (the w p .core .table)
   pub of-vote : {p : BoxNo} {z : Ballotpaper} → Voted (w .post) p z → Held P (w .post) (homeOf P p) (z .cballot) (z .clock .time) (z .table)
 
--- ---- 6. local stamps of one ballot
+-- ---- local stamps of one ballot
 
 pub record Locals (P : Plan) (w : World) : Type 0 where
   -- I1a: one ballot gives a job one local stamp
@@ -180,7 +180,7 @@ pub record Locals (P : Plan) (w : World) : Type 0 where
   -- G0: the DELIVERs of a job in one ballot are equal
   pub g0 : {m : ℕ} {b : Ballot} {s t s′ t′ : Stamp} → Del (w .post) m b s t → Del (w .post) m b s′ t′ → (s ≡ s′) × (t ≡ t′)
 
--- ---- 9. acknowledgements, hand-outs
+-- ---- acknowledgements, hand-outs
 
 -- an ACCEPT of m in ballot b
 pub record Asked (l : List Rec) (m : ℕ) (b : Ballot) : Type 0 where
@@ -243,7 +243,7 @@ pub record Inv (P : Plan) (w : World) : Type 0 where
   pub acks : Acks P w
   pub hands : Hands P w
 
--- ---- the STATE lemmas that preservation uses (section 10; proved in Core from Inv)
+-- ---- the STATE lemmas that preservation uses (proved from Inv in the files Core..)
 
 pub record State (P : Plan) (w : World) : Type 0 where
   -- I2n

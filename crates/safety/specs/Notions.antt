@@ -1,4 +1,4 @@
--- Words of the proof (demand3.md, section 1): records of the post, lam, Lts, Cert and its stamp, joined, the merge behind a NEW_STATE.
+-- Words of the proof (docs/PROOF.md, 'Words'): records of the post, lam, Lts, Cert and its stamp, joined, the merge behind a NEW_STATE.
 -- Each is over the post's list, and stays true when the post grows.
 use Prim.Native.Nat.{ℕ, _≤_, _<_}
 use mathlib.Core.Bool.{true}

@@ -1,4 +1,4 @@
--- Section 9, acknowledgements and certificates: every move keeps A0 A1b A1v I3d.
+-- Acknowledgements and certificates: every move keeps A0 A1b A1v I3d.
 -- Work is in kinds 2 and 5, and where DELIVERs are written.
 use Prim.Native.Nat.{ℕ, _≤_, _<_}
 use mathlib.Core.Bool.{true, false}

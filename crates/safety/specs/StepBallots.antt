@@ -1,5 +1,5 @@
--- Section 3, ballots: every move keeps B1 I1c B2 I1b B4 B5 B6l B6a B7.
--- Work is in kinds 5 to 8 (demand3.md, section 12).
+-- Ballots: every move keeps B1 I1c B2 I1b B4 B5 B6l B6a B7.
+-- Work is in kinds 5 to 8.
 use Prim.Native.Nat.{ℕ, _<_}
 use mathlib.Core.Bool.{true}
 use mathlib.Core.Logic.{_⊎_, inl, inr, _≢_}

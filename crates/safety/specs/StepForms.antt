@@ -1,4 +1,4 @@
--- Section 2 as far as it is asked: every move keeps the forms of boxes and records (own numbers, lengths, districts, real ballots).
+-- What S and R12 say as far as it is asked: every move keeps the forms of boxes and records (own numbers, lengths, districts, real ballots).
 -- Validity of what is written comes from the sound box and the valid record of the step.
 use Prim.Native.Nat.{ℕ, _+_, _*_, _≤_, _<_}
 use mathlib.Core.Bool.{Bool, true, false}

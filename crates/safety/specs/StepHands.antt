@@ -1,4 +1,4 @@
--- Section 9, hand-outs: every move keeps I6 and I5a.
+-- Hand-outs: every move keeps I6 and I5a.
 -- Work is where DELIVERs are written (kinds 3 and 8), in kind 1 (a new stamp is late) and in the merge (flags cleared).
 use Prim.Native.Nat.{ℕ, _+_, _≤_, _<_}
 use mathlib.Core.Bool.{true, false}

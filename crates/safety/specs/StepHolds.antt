@@ -1,4 +1,4 @@
--- Sections 3, 6, 7, 8 and 9, what a box and a vote have in common: every move keeps B3 B9 L2 J3 J4 C1 I3.
+-- What a box and a vote have in common: every move keeps B3 B9 L2 J3 J4 C1 I3.
 -- A box changes by one row, or takes a new state's table; a vote copies its box.
 use Prim.Native.Nat.{ℕ, _≤_, _<_}
 use mathlib.Core.Bool.{true, not, _||_}

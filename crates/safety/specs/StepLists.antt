@@ -1,4 +1,4 @@
--- Section 9, delivered lists: every move keeps D1, and that a list's jobs differ and its stamps rise.
+-- Delivered lists: every move keeps D1, and that a list's jobs differ and its stamps rise.
 -- Work is in kind 4; a table that changes its ballot leaves D1's DELIVER below it.
 use Prim.Native.Nat.{ℕ, _+_, _-_, _≤_, _<_}
 use mathlib.Core.List.{List}

@@ -1,4 +1,4 @@
--- Section 6, local stamps of one ballot: every move keeps I1a L0 L1 N2 N3 G0.
+-- Local stamps of one ballot: every move keeps I1a L0 L1 N2 N3 G0.
 -- Work is in kind 1; a new stamp is above the clock, so above all that the ballot has.
 use Prim.Native.Nat.{ℕ, _+_, _≤_, _<_}
 use mathlib.Core.Bool.{true}

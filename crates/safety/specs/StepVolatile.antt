@@ -1,4 +1,4 @@
--- Sections 4 and 5, volatile parts and new states: every move keeps V1 V2 V3 and N1.
+-- Volatile parts and new states: every move keeps V1 V2 V3 and N1.
 -- Work is in kinds 2, 3 and 6.
 use Prim.Native.Nat.{ℕ, _*_, _≤_, _<_}
 use mathlib.Core.Bool.{true, false}
