@@ -12,20 +12,20 @@ use Rattle.laws.specs.Digits.{digit, part, withDigit}
 use Rattle.laws.specs.Lex.{larger, largest}
 use Rattle.laws.specs.Majority.{majority}
 use Rattle.house.specs.Limits.{noJob}
-use Rattle.house.specs.Pairs.{district, boxNo, stamp, ballot, noStamp, noBallot, noRow, stampLt, ballotLt, sameStamp, sameBallot, latestStamp, isNoStamp, isNoBallot, timeFits, realStamp, realBallot, stampOf, ballotOf}
+use Rattle.house.specs.Pairs.{district, boxNo, stamp, ballot, noStamp, noBallot, noRow, stampLt, ballotLt, sameStamp, sameBallot, latestStamp, isNoStamp, isNoBallot, timeFits, realBallot}
 use Rattle.house.specs.declared.Stamp.{Stamp}
 use Rattle.house.specs.declared.Ballot.{Ballot}
 use Rattle.house.specs.declared.Row.{Row}
-use Rattle.plans.specs.Plan.{sizeOf, quorumOf, isJob, maskOf, names, planSound, countsSound, masksSound, maskSound, isBox, boxesOf, homeOf, sameHome, ballotIn, noneOrIn, isDistrict}
+use Rattle.plans.specs.Plan.{sizeOf, quorumOf, isJob, maskOf, names, planSound, countsSound, masksSound, maskSound, isBox, boxesOf, homeOf, ballotIn, noneOrIn}
 use Rattle.plans.specs.declared.Plan.{Plan}
-use Rattle.marks.specs.Marks.{noMarks, hasMark, onlyBoxes, marked, marksIn, quorumIn, quorumBelow, quorumEach}
+use Rattle.marks.specs.Marks.{noMarks, onlyBoxes, marked, marksIn, quorumIn, quorumBelow, quorumEach}
 use Rattle.records.specs.Format.{entry, orPlan, ballotsIn, stampsIn, rowsIn}
 use Rattle.records.specs.Fields.{ballots, stamps, rows}
 use Rattle.records.specs.Rec.{newleader, noRows, carried}
-use Rattle.records.specs.Rules.{rowSound, rowsSound, startRow, openRow, doneRow, bothStamps, isNoRow, spareRows, valid}
+use Rattle.records.specs.Rules.{rowSound, rowsSound, startRow, isNoRow, spareRows}
 use Rattle.records.specs.Bytes.{headBytes, ballotBytes, stampBytes, rowBytes, encode}
-use Rattle.boxes.specs.Box.{fresh, freshVolatile, rowAt, sentAt, keptAt, keptBallot, keptStamp, marksAt, listedAt, lastStamp, putTable, putMode}
-use Rattle.boxes.specs.Sound.{sound, boxSound, rangeSound, ballotsSound, tableSound, sentSound, keptSound, jobKeptSound, allKeptSound, marksSound, allMarksSound, listedSound, unlisted, listSound, paperOf, heldSound, unvoted, voteSound}
+use Rattle.boxes.specs.Box.{fresh, freshVolatile, rowAt, sentAt, keptAt, keptBallot, keptStamp, marksAt, listedAt, putTable, putMode}
+use Rattle.boxes.specs.Sound.{sound, boxSound, rangeSound, ballotsSound, tableSound, sentSound, keptSound, jobKeptSound, allKeptSound, marksSound, allMarksSound, unlisted, listSound, unvoted, voteSound}
 use Rattle.boxes.specs.Ready.{isOpen, openAbove, ready, better, nextBelow, nextReady}
 use Rattle.boxes.specs.Multicast.{raised}
 use Rattle.boxes.specs.Leaders.{topBallot, voteRow, committedAt, acceptedAt, firstRow, mergedRow}
@@ -103,5 +103,10 @@ examples =
     ∷ []
 
 pub all-examples : examples ≡ replicate 14 true
-unfolding examples stampLt ballotLt sameStamp sameBallot larger largest pick allBelow digit part withDigit majority ones sizeOf quorumOf isJob maskOf names marked marksIn quorumIn quorumBelow quorumEach entry orPlan ballotsIn stampsIn rowsIn ballots stamps rows carried headBytes ballotBytes stampBytes rowBytes encode fresh rowAt sentAt isOpen openAbove ready better nextBelow raised topBallot voteRow committedAt acceptedAt firstRow mergedRow nextBallot sound boxSound rangeSound ballotsSound tableSound sentSound keptSound jobKeptSound allKeptSound marksSound allMarksSound listedSound unlisted listSound paperOf heldSound unvoted voteSound rowSound rowsSound startRow openRow doneRow bothStamps isNoRow spareRows valid planSound countsSound masksSound maskSound isBox boxesOf homeOf sameHome ballotIn noneOrIn isDistrict isNoStamp isNoBallot timeFits realStamp realBallot stampOf ballotOf keptAt keptBallot keptStamp marksAt freshVolatile listedAt lastStamp hasMark onlyBoxes
+unfolding examples stampLt ballotLt sameStamp sameBallot larger largest pick allBelow digit part withDigit majority ones sizeOf quorumOf isJob maskOf
+    names marked marksIn quorumIn quorumBelow quorumEach entry orPlan ballotsIn stampsIn rowsIn ballots stamps rows carried headBytes ballotBytes
+    stampBytes rowBytes encode fresh rowAt sentAt isOpen openAbove ready better nextBelow raised topBallot voteRow committedAt acceptedAt firstRow
+    mergedRow nextBallot sound boxSound rangeSound ballotsSound tableSound sentSound keptSound jobKeptSound allKeptSound marksSound allMarksSound
+    unlisted listSound unvoted voteSound rowSound rowsSound startRow isNoRow spareRows planSound countsSound masksSound maskSound isBox boxesOf homeOf
+    ballotIn noneOrIn isNoStamp isNoBallot timeFits realBallot keptAt keptBallot keptStamp marksAt freshVolatile listedAt onlyBoxes
 all-examples = refl

@@ -1,4 +1,4 @@
--- The box and the protocol: document 01, 'A box', 'What each kind does', 'Answers'; Figure 4 of document 000.
+-- The box and the protocol: document 01, 'A box', 'What each kind does', 'Answers'; Figure 4 of the paper that document 01 names.
 pub mod Box
 pub mod Sound
 pub mod Out
