@@ -1,7 +1,7 @@
 /*
  * rehearse.c: the rehearse program of document 01 in plain C11.
  *
- * Written from document 01 and the readings of its open points, without a look
+ * Written from document 01 and docs/DECISIONS.md, without a look
  * at the proved program, for two uses: an independent check of every answer, and
  * the baseline of the speed ratio. It reads a session on standard input and
  * prints `ok N` or `no N` for each order, then the closing report. Records lie
