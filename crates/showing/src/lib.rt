@@ -1,102 +1,111 @@
-// A vector of bytes read and a record written, each shown as one line: number, answer; for a record taken, how many bytes writing it gives, and whether they are the same.
-use plans::Plan;
+// Answers, bytes and records as text in hex. The form of a record stands at the head of vectors/stdin.
+// Nothing here asks the rules of a record: what is none is told by its own numbers.
+pub mod forms;
+
+use house::Ballot;
+use house::Row;
+use house::Stamp;
 use records::Answer;
 use records::Record;
 
-fn answer_no(a: Answer) -> u64 {
+pub fn answer_no(a: Answer) -> u64 {
     match a {
         Answer::Done => 0,
         Answer::No(n) => n as u64,
     }
 }
 
-// job 0 names both districts, job 1 names district 0
-pub fn two_districts() -> Plan {
-    let mut masks = [0u8; 64];
-    masks[0] = 3;
-    masks[1] = 1;
-    Plan {
-        districts: 2,
-        jobs: 2,
-        masks: masks,
-    }
-}
-
-// as many districts and jobs as there can be
-pub fn largest() -> Plan {
-    Plan {
-        districts: 4,
-        jobs: 64,
-        masks: [15; 64],
-    }
-}
-
-fn start_line(no: u64, answer: Answer) {
-    io::print_decimal(1, no);
+// a space, and 0 for done or the number of the refusal
+pub fn show_answer(a: Answer) {
     io::write_all(1, b" ");
-    io::print_decimal(1, answer_no(answer));
+    io::print_decimal(1, answer_no(a));
 }
 
-// the first n bytes of the tray are s
-fn same_front(tray: [u8; 4096], n: usize, s: &[u8]) -> bool {
-    if 4096 < n {
-        return false;
-    }
-    check::same(&tray[..n], s)
+fn show_digits(b: u8) {
+    io::print_hex(1, b as u64, 2);
 }
 
-// writes the record, and says whether its bytes are s
-fn again(plan: Plan, r: Record, s: &[u8]) {
-    let mut tray = [170u8; 4096];
-    let w = writer::write_record(plan, r, &mut tray);
-    let n = w.used;
+// a space, and the byte
+fn show_byte(b: u8) {
     io::write_all(1, b" ");
-    io::print_decimal(1, n as u64);
-    if same_front(tray, n, s) {
-        io::write_all(1, b" same");
+    show_digits(b);
+}
+
+// a space, and the bytes with nothing between them
+pub fn show_bytes(s: &[u8]) {
+    io::write_all(1, b" ");
+    for i in 0..s.len() {
+        show_digits(s[i]);
     }
 }
 
-// reads the bytes of one vector
-pub fn read_with(plan: Plan, no: u64, s: &[u8]) {
-    let out = reader::read_record(plan, s);
-    let answer = out.answer;
-    let r = out.rec;
-    start_line(no, answer);
-    if answer_no(answer) == 0 {
-        again(plan, r, s);
-    }
-    io::write_all(1, b"\n");
-}
-
-// the same in the plan of two districts
-pub fn read(no: u64, s: &[u8]) {
-    let plan = two_districts();
-    read_with(plan, no, s);
-}
-
-// reads the first n bytes of the tray, and writes that record
-fn reread(plan: Plan, tray: [u8; 4096], n: usize) {
-    if 4096 < n {
+// a ballot behind its place, unless it is none
+fn show_ballot(place: u8, b: Ballot) {
+    let number = b.number;
+    let owner = b.owner.0;
+    if (number == 0) & (owner == 0) {
         return;
     }
-    let out = reader::read_record(plan, &tray[..n]);
-    let back = out.rec;
-    again(plan, back, &tray[..n]);
+    show_byte(place);
+    io::write_all(1, b" ");
+    io::print_hex(1, number as u64, 4);
+    show_byte(owner);
 }
 
-// writes the record into so many bytes, and reads it again
-pub fn write(plan: Plan, no: u64, r: Record, room: usize) {
-    let mut tray = [170u8; 4096];
-    if 4096 < room {
+fn no_stamp(s: Stamp) -> bool {
+    (s.time == 0) & (s.district.0 == 0)
+}
+
+fn show_both(s: Stamp) {
+    io::write_all(1, b" ");
+    io::print_hex(1, s.time as u64, 8);
+    show_byte(s.district.0);
+}
+
+// a stamp behind its place, unless it is none
+fn show_stamp(place: u8, s: Stamp) {
+    if no_stamp(s) {
         return;
     }
-    let w = writer::write_record(plan, r, &mut tray[..room]);
-    let n = w.used;
-    let answer = w.answer;
-    start_line(no, answer);
-    if 0 < n {
-        reread(plan, tray, n);
+    show_byte(place);
+    show_both(s);
+}
+
+// a row behind its place, unless it is none
+fn show_row(place: u8, row: Row) {
+    let local = row.local;
+    let global = row.global;
+    if (row.phase == 0) & no_stamp(local) & no_stamp(global) {
+        return;
     }
-    io::write_all(1, b"\n");
+    show_byte(place);
+    show_byte(row.phase);
+    show_both(local);
+    show_both(global);
+}
+
+fn show_rows(table: [Row; 64]) {
+    for i in 0..64u8 {
+        let at = i as usize;
+        let row = table[at];
+        show_row(i, row);
+    }
+}
+
+// kind, from, to, job, and every place of the struct that is not none
+pub fn show_record(r: Record) {
+    let ballots = r.ballots;
+    let stamps = r.stamps;
+    let table = r.table;
+    show_byte(r.kind);
+    show_byte(r.from.0);
+    show_byte(r.to.0);
+    show_byte(r.job);
+    show_ballot(0xb0, ballots[0]);
+    show_ballot(0xb1, ballots[1]);
+    show_ballot(0xb2, ballots[2]);
+    show_ballot(0xb3, ballots[3]);
+    show_stamp(0xc0, stamps[0]);
+    show_stamp(0xc1, stamps[1]);
+    show_rows(table);
 }
