@@ -1,20 +1,25 @@
 // The report at the end of the rehearse program, for a sound plan. What it says stands in specs/Closing.antt.
-// Whoever lends the text tray gives it 4,956 bytes: twelve lines of boxes and 64 of jobs.
+// The text tray is an array with room for a line of each box and of each job of the largest plan.
 ghost use mathlib.Core.Path.{_≡_};
 ghost use mathlib.Core.Bool.{true};
 ghost use Prim.Native.Nat.{_*_, _≤_, _<_};
 ghost use lib.ListN.{length};
 ghost use Rattle.laws.specs.Tray.{onto, allFor};
-ghost use Rattle.plans.specs.Plan.{boxesOf, planSound};
+ghost use Rattle.plans.specs.Plan.{planSound};
 ghost use Rattle.report.specs.Report.{boxMost, jobMost};
-ghost use Rattle.closing.specs.Closing.{boxReport, jobReport, soundReport, nightReport, reportMost};
+ghost use Rattle.closing.specs.Closing.{boxReport, jobReport, soundReport, reportMost};
+ghost use Rattle.closing.specs.Promise.{Closed};
+use house::BoxNo;
 use plans::Plan;
 use rehearsal::Night;
 
+// the room of the report
+pub const REPORT_ROOM: usize = 12 * report::BOX_ROOM + 64 * report::JOB_ROOM;
+
 // the line of a box
-fn put_box(night: Night, p: u8, t: &mut [u8]) -> usize
-    requires { ⌜ (p < 12) × (boxMost ≤ length (now t)) ⌝ }
-    ensures { λ r. ⌜ (r ≤ boxMost) × (r ≡ length (boxReport night p)) × (now (t .exit) ≡ onto (boxReport night p) (now (t .entry))) ⌝ }
+fn put_box(night: Night, p: BoxNo, t: &mut [u8]) -> usize
+    requires { ⌜ (p .0 < 12) × (boxMost ≤ length (now t)) ⌝ }
+    ensures { λ r. ⌜ (r ≤ boxMost) × (r ≡ length (boxReport night (p .0))) × (now (t .exit) ≡ onto (boxReport night (p .0)) (now (t .entry))) ⌝ }
 {
     let x = endings::box_in(night, p);
     let list = endings::jobs_of(x);
@@ -31,7 +36,7 @@ fn put_job(plan: Plan, night: Night, job: u8, t: &mut [u8]) -> usize
     let c = endings::first_below(night, job, n);
     let stamp = c.stamp;
     let finished = endings::finished_below(plan, night, job, plan.districts);
-    report::job_line(job, c.found, stamp.time, stamp.district.0, finished, t)
+    report::job_line(job, c.found, stamp, finished, t)
 }
 
 // the lines of the first n boxes
@@ -41,7 +46,7 @@ fn put_boxes(night: Night, n: u8, t: &mut [u8]) -> usize
 {
     let mut used = 0;
     for p in 0..n {
-        let more = put_box(night, p, &mut t[used..]);
+        let more = put_box(night, BoxNo(p), &mut t[used..]);
         used += more;
     }
     used
@@ -71,9 +76,8 @@ fn put_report(plan: Plan, night: Night, t: &mut [u8]) -> usize
 }
 
 // the report: nothing for an unsound plan
-pub fn close(plan: Plan, night: Night, t: &mut [u8]) -> usize
-    requires { ⌜ reportMost ≤ length (now t) ⌝ }
-    ensures { λ r. ⌜ (r ≤ reportMost) × (r ≡ length (nightReport plan night)) × (now (t .exit) ≡ onto (nightReport plan night) (now (t .entry))) ⌝ }
+pub fn close(plan: Plan, night: Night, t: &mut [u8; REPORT_ROOM]) -> usize
+    ensures { λ r. ⌜ Closed plan night (now (t .entry)) r (now (t .exit)) ⌝ }
 {
     if sound_plans::plan_sound(plan) {
         return put_report(plan, night, t);

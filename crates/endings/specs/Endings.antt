@@ -1,7 +1,7 @@
 -- What the report says of a night: the jobs of a box's list; the global stamp of a job at the lowest box that has it committed; and
 -- whether a job is finished, which is: on the list of at least one box in each district that it names.
 use Prim.Native.Nat.{ℕ, _+_, _*_}
-use mathlib.Core.Bool.{Bool, true, false, not, _&&_, _||_}
+use mathlib.Core.Bool.{Bool, true, false, not, _||_}
 use mathlib.Core.List.{List, [], _∷_, _++_}
 use lib.Dec.{ltb, eqb}
 use Rattle.laws.specs.Choice.{pick}

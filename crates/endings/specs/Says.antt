@@ -1,11 +1,11 @@
 -- What the report says, in document 01's words: the lowest box that has a job committed, and a job on the list of a box in each named district.
 use Prim.Native.Nat.{ℕ, zero, suc, _+_, _*_, _<_}
-use mathlib.Core.Bool.{Bool, true, false, not, _||_}
+use mathlib.Core.Bool.{true, false, not, _||_}
 use mathlib.Core.Logic.{_⊎_, inl, inr, ⊎-elim}
 use mathlib.Core.Path.{_≡_, refl, sym, ap, _∙_}
 use native.Mathlib.Nat.{eq-or-lt-of-le}
 use native.Mathlib.Omega.{arith}
-use Rattle.laws.specs.Choice.{pick, pick-true, pick-false, look, never, or-other, or-left, or-right, not-of, not-off}
+use Rattle.laws.specs.Choice.{pick-true, pick-false, look, never, or-other, or-left, or-right, not-of, not-off}
 use Rattle.laws.specs.Fold.{all-says, all-is, some-says, some-is}
 use Rattle.house.specs.Pairs.{district, boxNo}
 use Rattle.house.specs.declared.Row.{Row}
@@ -15,7 +15,7 @@ use Rattle.plans.specs.declared.Plan.{Plan}
 use Rattle.boxes.specs.Box.{rowAt, onList}
 use Rattle.rehearsal.specs.Night.{boxIn}
 use Rattle.rehearsal.specs.declared.Night.{Night}
-use Rattle.endings.specs.Endings.{isCommitted, firstOf, nowhere, firstBelow, listedIn, doneIn, finished}
+use Rattle.endings.specs.Endings.{isCommitted, firstOf, firstBelow, listedIn, doneIn, finished}
 use Rattle.endings.specs.declared.Committed.{Committed}
 
 -- the row of job j at box p

@@ -2,10 +2,10 @@
 // What each function means stands in specs/Endings.antt.
 ghost use mathlib.Core.Path.{_≡_};
 ghost use Prim.Native.Nat.{_+_, _≤_, _<_};
-ghost use Rattle.plans.specs.Plan.{boxesOf};
 ghost use Rattle.rehearsal.specs.Night.{boxIn};
 ghost use Rattle.endings.specs.Endings.{jobsOf, shownOf, firstOf, firstBelow, listedIn, doneIn, finished};
 use boxes::BoxState;
+use house::BoxNo;
 use house::District;
 use house::Row;
 use house::Stamp;
@@ -46,11 +46,11 @@ pub fn shown_of(x: BoxState) -> usize
     n as usize
 }
 
-pub fn box_in(night: Night, p: u8) -> BoxState
-    requires { ⌜ p < 12 ⌝ }
-    ensures { λ r. ⌜ r ≡ boxIn night p ⌝ }
+pub fn box_in(night: Night, p: BoxNo) -> BoxState
+    requires { ⌜ p .0 < 12 ⌝ }
+    ensures { λ r. ⌜ r ≡ boxIn night (p .0) ⌝ }
 {
-    let at = p as usize;
+    let at = p.0 as usize;
     night.boxes[at]
 }
 
@@ -81,33 +81,35 @@ pub fn first_below(night: Night, job: u8, n: u8) -> Committed
         stamp: house::no_stamp(),
     };
     for p in 0..n {
-        let x = box_in(night, p);
+        let x = box_in(night, BoxNo(p));
         first = first_of(first, looking::row_at(x, job));
     }
     first
 }
 
 // the job is on the list of one of `size` boxes from `low` on
-fn listed_in(night: Night, job: u8, low: u8, size: u8) -> bool
-    requires { ⌜ (low + size ≤ 12) ⌝ }
-    ensures { λ r. ⌜ r ≡ listedIn night job low size ⌝ }
+fn listed_in(night: Night, job: u8, low: BoxNo, size: u8) -> bool
+    requires { ⌜ low .0 + size ≤ 12 ⌝ }
+    ensures { λ r. ⌜ r ≡ listedIn night job (low .0) size ⌝ }
 {
     let mut found = false;
     for i in 0..size {
-        let x = box_in(night, low + i);
+        let p = low.0 + i;
+        let x = box_in(night, BoxNo(p));
         found = found | looking::on_list(x, job);
     }
     found
 }
 
 // a district is done with the job if the job doesn't name it, or is on the list of one of its boxes
-fn done_in(plan: Plan, night: Night, job: u8, d: u8) -> bool
-    requires { ⌜ d < 4 ⌝ }
-    ensures { λ r. ⌜ r ≡ doneIn plan night job d ⌝ }
+fn done_in(plan: Plan, night: Night, job: u8, d: District) -> bool
+    requires { ⌜ d .0 < 4 ⌝ }
+    ensures { λ r. ⌜ r ≡ doneIn plan night job (d .0) ⌝ }
 {
     let size = plans::size_of(plan);
-    let named = plans::named(plan, job, District(d));
-    !named | listed_in(night, job, d * size, size)
+    let named = plans::named(plan, job, d);
+    let low = d.0 * size;
+    !named | listed_in(night, job, BoxNo(low), size)
 }
 
 // every district is done with the job
@@ -117,7 +119,7 @@ pub fn finished_below(plan: Plan, night: Night, job: u8, n: u8) -> bool
 {
     let mut ok = true;
     for d in 0..n {
-        ok = ok & done_in(plan, night, job, d);
+        ok = ok & done_in(plan, night, job, District(d));
     }
     ok
 }

@@ -1,7 +1,7 @@
 -- What the program does with the order of one line: the desk, the night and the post after it, and the text that it prints.
 use Prim.Native.Nat.{ℕ}
 use mathlib.Core.Bool.{Bool, true, false}
-use mathlib.Core.List.{List, [], _∷_, _++_}
+use mathlib.Core.List.{List, []}
 use lib.ListN.{length}
 use Rattle.laws.specs.Choice.{pick}
 use Rattle.records.specs.declared.Answer.{Answer}

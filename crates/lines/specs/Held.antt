@@ -5,15 +5,14 @@ use mathlib.Core.Bool.{Bool, true, false}
 use mathlib.Core.List.{List, [], _∷_, _++_, append-nil}
 use mathlib.Core.Path.{_≡_, refl, sym, _∙_}
 use native.Mathlib.Omega.{arith}
-use lib.ListN.{length, take, set, replicate, length-append}
+use lib.ListN.{length, take, set, replicate, length-append, length-take}
 use lib.Dec.{ltb, eqb}
 use lib.Seq.{take-all, take-append-le, take-append-seam}
-use borrow.Author.Tests.{ltb-true, ltb-false, ne-eqb}
+use borrow.Author.Tests.{lt-ltb, ltb-true, ltb-false, ne-eqb}
 use Rattle.laws.specs.Choice.{pick, pick-true, pick-false}
 use Rattle.laws.specs.Codec.{fill-step}
 use Rattle.lines.specs.declared.LineState.{LineState}
 use Rattle.lines.specs.declared.Order.{Order}
-use Rattle.lines.specs.declared.Order.the-variants.{Unreadable}
 use Rattle.lines.specs.Orders.{longest, orderOfLine}
 
 -- nothing has come
@@ -26,7 +25,7 @@ pushed s b = pick (ltb longest (s .len)) s (record { len = s .len + 1; bytes = s
 
 -- the order of the line held
 unfoldable pub orderHeld : LineState → Order
-orderHeld s = pick (ltb longest (s .len)) Unreadable (orderOfLine (take (s .len) (s .bytes)))
+orderHeld s = orderOfLine (take (s .len) (s .bytes))
 
 -- what is held of a line of which p has come
 unfoldable pub held : List ℕ → LineState
@@ -78,7 +77,8 @@ held-order p = go (ltb longest (length p)) refl
     go : (t : Bool) → ltb longest (length p) ≡ t → orderHeld (held p) ≡ orderOfLine p
     go true e =
         let h : longest < length p = ltb-true longest (length p) e in
-        rw (held-long p (omega arith)) (pick-true _ _ refl ∙ sym (pick-true _ _ e))
+        let k : longest < length (take 32 (take 32 p)) = rw (length-take, length-take) (omega arith) in
+        rw (held-long p (omega arith)) (pick-true _ _ (lt-ltb longest (length (take 32 (take 32 p))) k) ∙ sym (pick-true _ _ e))
     go false e =
         let h : length p ≤ longest = ltb-false longest (length p) e in
-        rw (held-short p (omega arith)) (pick-false _ _ e ∙ rw (take-append-seam p (replicate (32 - length p) 0)))
+        rw (held-short p (omega arith)) (rw (take-append-seam p (replicate (32 - length p) 0)))

@@ -3,6 +3,8 @@
 pub mod Orders
 pub mod OrderLaws
 pub mod Held
+pub mod Reads
+pub mod ReadLaws
 pub mod Feed
 pub mod Spelling
 pub mod Examples

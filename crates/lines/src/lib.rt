@@ -1,10 +1,10 @@
 // A line of the rehearse program read into an order, and the line that is coming, byte by byte.
-// What the lines mean is said in specs/Orders.antt; that the bytes give the orders in specs/Feed.antt.
+// What each function promises stands in specs/Reads.antt; that the bytes of an input give the orders of its lines in specs/Feed.antt.
 ghost use mathlib.Core.List.{[], _∷_};
 ghost use mathlib.Core.Path.{_≡_};
 ghost use Rattle.words.specs.Parts.{words};
-ghost use Rattle.lines.specs.Orders.{oneNumber, orderOfWords, orderOfLine};
-ghost use Rattle.lines.specs.Held.{noLine, pushed, orderHeld};
+ghost use Rattle.lines.specs.Orders.{oneNumber, orderOfWords};
+ghost use Rattle.lines.specs.Reads.{LineRead, NothingHeld, ByteHeld, HeldRead};
 
 pub enum Order {
     Districts(u32),
@@ -89,7 +89,7 @@ fn order_of_rest(word: &[u8], rest: &[u8]) -> Order
 
 // The order that a line gives.
 pub fn order_of_line(line: &[u8]) -> Order
-    ensures { λ r. ⌜ r ≡ orderOfLine (now (line .entry)) ⌝ }
+    ensures { λ r. ⌜ LineRead (now (line .entry)) r ⌝ }
 {
     if LONGEST < line.len() {
         return Order::Unreadable;
@@ -104,7 +104,7 @@ pub fn order_of_line(line: &[u8]) -> Order
 
 // The line of which nothing has come.
 pub fn no_line() -> LineState
-    ensures { λ r. ⌜ r ≡ noLine ⌝ }
+    ensures { λ r. ⌜ NothingHeld r ⌝ }
 {
     LineState {
         len: 0,
@@ -114,7 +114,7 @@ pub fn no_line() -> LineState
 
 // The line with one byte more. Of a line over 31 bytes no more is kept.
 pub fn push(line: LineState, byte: u8) -> LineState
-    ensures { λ r. ⌜ r ≡ pushed line byte ⌝ }
+    ensures { λ r. ⌜ ByteHeld line byte r ⌝ }
 {
     let n = line.len;
     if LONGEST < n {
@@ -130,7 +130,7 @@ pub fn push(line: LineState, byte: u8) -> LineState
 
 // The order of the line held.
 pub fn order_held(line: LineState) -> Order
-    ensures { λ r. ⌜ r ≡ orderHeld line ⌝ }
+    ensures { λ r. ⌜ HeldRead line r ⌝ }
 {
     let n = line.len;
     if LONGEST < n {

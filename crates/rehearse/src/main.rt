@@ -1,72 +1,78 @@
 // The rehearse program: orders from standard input, an answer to each, and a report at the end.
-// No contract can say what is read or written: the session and the report are proved, this is the reading and writing around them.
-ghost use Prim.Native.Nat.{_<_};
+// What is fed, said and decided is proved; only the calls that read and write stay outside (crate printing, specs/Turns.antt, says what a run is).
+ghost use Rattle.printing.specs.Turns.{OneTurn, Ran};
+use printing::Next;
 use sessions::Session;
 
+// The session after some turns, and what comes next.
 struct Going {
     session: Session,
-    more: bool,
+    next: Next,
 }
 
-// Reads once, answers the lines that end there, and says whether to go on.
-fn read_once(s: Session, post: &mut [u8]) -> Going {
-    let mut input = [0u8; 256];
-    let got = libc::read(0, &mut input);
-    if got <= 0 {
-        return Going {
-            session: s,
-            more: false,
-        };
-    }
-    let n = io::count(got, &input);
-    let mut out = [0u8; 3584];
-    let f = sessions::feed_chunk(s, &input[0..n], post, &mut out);
-    let next = f.session;
-    let used = f.used;
-    let is_written = io::write_all(1, &out[0..used]);
-    Going {
-        session: next,
-        more: is_written,
-    }
-}
-
-// A proved loop ends, and nothing says that the input does: it counts its turns, from a number that no run uses up.
-fn all_turns(s: Session, post: &mut [u8]) -> Session {
-    let mut cur = s;
-    let mut turns = u64::MAX;
-    while 0 < turns {
-        let g = read_once(cur, post);
-        let next = g.session;
-        cur = next;
-        turns = turns_left(turns, g.more);
-    }
-    cur
-}
-
-fn turns_left(turns: u64, more: bool) -> u64
-    requires { ⌜ 0 < turns ⌝ }
-    ensures { λ r. ⌜ r < turns ⌝ }
+// One turn: reads, writes the answers to the lines that end there, and says what comes next.
+fn one_turn(s: Session, post: &mut [u8]) -> Going
+    ensures { λ r. ⌜ OneTurn s (now (post .entry)) (r .session) (r .next) (now (post .exit)) ⌝ }
 {
-    if more { turns - 1 } else { 0 }
+    let mut input = [0u8; sessions::CHUNK];
+    let got = libc::read(0, &mut input);
+    let n = io::count(got, &input);
+    let mut out = [0u8; sessions::CHUNK_ROOM];
+    let f = sessions::feed_chunk(s, &input, n, post, &mut out);
+    let after = f.session;
+    let used = f.used;
+    let written = io::write_all(1, &out[0..used]);
+    Going {
+        session: after,
+        next: printing::next_of(got, written),
+    }
 }
 
-// The line that the end of the input ends, then the report.
-fn finish(s: Session, post: &mut [u8]) {
-    let mut out = [0u8; 14];
-    let f = sessions::last_line(s, post, &mut out);
-    let used = f.used;
-    io::write_all(1, &out[0..used]);
-    let last = f.session;
-    let desk = last.desk;
-    let plan = desk.plan;
-    let night = last.night;
-    let mut lines = [0u8; 8192];
-    let n = closing::close(plan, night, &mut lines);
-    io::write_all(1, &lines[0..n]);
+// All turns. A proved loop ends, and nothing says that the input does: it counts its turns, from a number that no run uses up.
+fn all_turns(s: Session, post: &mut [u8]) -> Going
+    ensures { λ r. ⌜ Ran s (now (post .entry)) (r .session) (r .next) (now (post .exit)) ⌝ }
+{
+    let mut cur = s;
+    let mut next = Next::More;
+    let mut turns = u64::MAX;
+    while (0 < turns) & printing::goes_on(next) {
+        let g = one_turn(cur, post);
+        let after = g.session;
+        cur = after;
+        let more = g.next;
+        next = more;
+        turns -= 1;
+    }
+    Going {
+        session: cur,
+        next: next,
+    }
+}
+
+// Behind the end of the input: the last answer and the report.
+fn end(s: Session, post: &mut [u8]) {
+    let mut out = [0u8; printing::LAST_ROOM];
+    let used = printing::last_words(s, post, &mut out);
+    if io::write_all(1, &out[0..used]) {} else {
+        io::write_all(2, b"rehearse: standard output cannot be written\n");
+    }
 }
 
 fn main() {
-    let mut post = [0u8; 65536];
-    let s = all_turns(sessions::fresh_session(), &mut post);
-    finish(s, &mut post);
+    let mut post = [0u8; house::MOST_POST];
+    let g = all_turns(sessions::fresh_session(), &mut post);
+    let s = g.session;
+    let next = g.next;
+    match next {
+        Next::End => end(s, &mut post),
+        Next::ReadFailed => {
+            io::write_all(2, b"rehearse: standard input cannot be read\n");
+        }
+        Next::WriteFailed => {
+            io::write_all(2, b"rehearse: standard output cannot be written\n");
+        }
+        Next::More => {
+            io::write_all(2, b"rehearse: too many reads\n");
+        }
+    }
 }

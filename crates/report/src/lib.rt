@@ -5,6 +5,13 @@ ghost use Prim.Native.Nat.{_≤_};
 ghost use lib.ListN.{length};
 ghost use Rattle.laws.specs.Tray.{onto};
 ghost use Rattle.report.specs.Report.{titled, jobsText, listText, boxText, stampText, jobText, boxMost, jobMost};
+use house::BoxNo;
+use house::Stamp;
+
+// the room of a box's line and of a job's
+pub const BOX_ROOM: usize = 269;
+
+pub const JOB_ROOM: usize = 27;
 
 // A word of three bytes and a number.
 fn put_titled(word: &[u8; 3], n: u8, t: &mut [u8]) -> usize
@@ -39,40 +46,33 @@ fn put_list(list: [u8; 64], count: usize, t: &mut [u8]) -> usize
 }
 
 // `box B list` and the jobs of the list.
-pub fn box_line(number: u8, list: [u8; 64], count: usize, t: &mut [u8]) -> usize
+pub fn box_line(number: BoxNo, list: [u8; 64], count: usize, t: &mut [u8]) -> usize
     requires { ⌜ (count ≤ 64) × (boxMost ≤ length (now t)) ⌝ }
-    ensures { λ r. ⌜ (r ≤ boxMost) × (r ≡ length (boxText number list count)) × (now (t .exit) ≡ onto (boxText number list count) (now (t .entry))) ⌝ }
+    ensures { λ r. ⌜ (r ≤ boxMost) × (r ≡ length (boxText (number .0) list count)) × (now (t .exit) ≡ onto (boxText (number .0) list count) (now (t .entry))) ⌝ }
 {
-    let a = put_titled(b"box", number, t);
+    let a = put_titled(b"box", number.0, t);
     a + put_list(list, count, &mut t[a..])
 }
 
 // The time and the district of a stamp, or `- -` where there is none.
-fn put_stamp(committed: bool, time: u32, district: u8, t: &mut [u8]) -> usize
+fn put_stamp(committed: bool, stamp: Stamp, t: &mut [u8]) -> usize
     requires { ⌜ 15 ≤ length (now t) ⌝ }
-    ensures { λ r. ⌜ (r ≤ 15) × (r ≡ length (stampText committed time district)) × (now (t .exit) ≡ onto (stampText committed time district) (now (t .entry))) ⌝ }
+    ensures { λ r. ⌜ (r ≤ 15) × (r ≡ length (stampText committed (stamp .time) (stamp .district .0))) × (now (t .exit) ≡ onto (stampText committed (stamp .time) (stamp .district .0)) (now (t .entry))) ⌝ }
 {
     if committed {
         let a = texts::put(b" ", t);
-        let b = a + texts::put_decimal(time, &mut t[a..]);
-        return b + texts::put_item(district, &mut t[b..]);
+        let b = a + texts::put_decimal(stamp.time, &mut t[a..]);
+        return b + texts::put_item(stamp.district.0, &mut t[b..]);
     }
     texts::put(b" - -", t)
 }
 
 // `job K TIME DISTRICT yes` or `no`.
-pub fn job_line(
-    job: u8,
-    committed: bool,
-    time: u32,
-    district: u8,
-    finished: bool,
-    t: &mut [u8],
-) -> usize
+pub fn job_line(job: u8, committed: bool, stamp: Stamp, finished: bool, t: &mut [u8]) -> usize
     requires { ⌜ jobMost ≤ length (now t) ⌝ }
-    ensures { λ r. ⌜ (r ≤ jobMost) × (r ≡ length (jobText job committed time district finished)) × (now (t .exit) ≡ onto (jobText job committed time district finished) (now (t .entry))) ⌝ }
+    ensures { λ r. ⌜ (r ≤ jobMost) × (r ≡ length (jobText job committed (stamp .time) (stamp .district .0) finished)) × (now (t .exit) ≡ onto (jobText job committed (stamp .time) (stamp .district .0) finished) (now (t .entry))) ⌝ }
 {
     let a = put_titled(b"job", job, t);
-    let b = a + put_stamp(committed, time, district, &mut t[a..]);
+    let b = a + put_stamp(committed, stamp, &mut t[a..]);
     b + texts::put_either(finished, b" yes\n", b" no\n", &mut t[b..])
 }

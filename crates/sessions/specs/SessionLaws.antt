@@ -1,15 +1,18 @@
--- What is read does not depend on what was said before: the text comes behind it.
-use Prim.Native.Nat.{ℕ}
+-- What is read does not depend on what was said before: the text comes behind it. And the first bytes of a chunk.
+use Prim.Native.Nat.{ℕ, _≤_}
 use mathlib.Core.Bool.{Bool, true, false}
 use mathlib.Core.List.{List, [], _∷_, _++_, append-assoc, append-nil}
 use mathlib.Core.Path.{_≡_, refl, sym, ap, _∙_}
-use lib.Dec.{eqb}
-use Rattle.laws.specs.Choice.{pick}
+use native.Mathlib.Omega.{arith}
+use lib.ListN.{length, take}
+use lib.Seq.{take-all}
+use lib.Dec.{eqb, ltb}
+use borrow.Author.Tests.{ltb-false}
+use Rattle.laws.specs.Choice.{pick, pick-when}
 use Rattle.words.specs.Parts.{lineFeed}
-use Rattle.lines.specs.Held.{noLine, pushed, orderHeld}
+use Rattle.lines.specs.Held.{pushed}
 use Rattle.lines.specs.Feed.{Reading, lineEnd, byteRead, allRead, inputEnd}
-use Rattle.hearing.specs.Heard.{After, handled}
-use Rattle.sessions.specs.Session.{World, saying, act, within, sessionOf, lineOf, byteOf, chunkOf, lastOf}
+use Rattle.sessions.specs.Session.{World, saying, act, within, sessionOf, byteOf, lastOf}
 use Rattle.sessions.specs.declared.Session.{Session}
 
 -- a reading behind some text
@@ -62,3 +65,8 @@ last-says r = go (eqb (r .line .len) 0)
     go : (t : Bool) → pick t (r .state) (lineEnd act r .state) ≡ saying (r .state .text) (pick t (quiet r) (lineEnd act (quiet r)) .state)
     go true = ap (λ (z : Reading World). z .state) (behind-none r)
     go false = ap (λ (z : Reading World). z .state) (line-says r)
+
+-- the first n of at most m bytes
+pub take-within : (n m : ℕ) (l : List ℕ) → length l ≤ m → take (pick (ltb n m) n m) l ≡ take n l
+take-within n m l h =
+    pick-when (λ k. take k l ≡ take n l) (ltb n m) (λ t. refl) (λ t. let o = ltb-false n m t in take-all m l h ∙ sym (take-all n l (omega arith)))

@@ -33,10 +33,10 @@ returns c =
     let a = c .before .before .before .before .before .before .before .before .args in
     let q = c .before .before .box-line in
     let x = c .before .before .before .before .before .before .box-in in
-    let v : boxText (a .p) (c .before .before .before .before .before .jobs-of .result) (c .before .before .before .before .shown-of .result) ≡ boxReport (a .night) (a .p) =
-    ap (λ (l : List ℕ). boxText (a .p) l (c .before .before .before .before .shown-of .result)) (c .before .before .before .before .before .jobs-of .ensures)
-    ∙ ap (boxText (a .p) (jobsOf (x .result))) (c .before .before .before .before .shown-of .ensures .0)
-    ∙ ap (λ (y : BoxState). boxText (a .p) (jobsOf y) (shownOf y)) (x .ensures) in
+    let v : boxText (a .p .0) (c .before .before .before .before .before .jobs-of .result) (c .before .before .before .before .shown-of .result) ≡ boxReport (a .night) (a .p .0) =
+    ap (λ (l : List ℕ). boxText (a .p .0) l (c .before .before .before .before .shown-of .result)) (c .before .before .before .before .before .jobs-of .ensures)
+    ∙ ap (boxText (a .p .0) (jobsOf (x .result))) (c .before .before .before .before .shown-of .ensures .0)
+    ∙ ap (λ (y : BoxState). boxText (a .p .0) (jobsOf y) (shownOf y)) (x .ensures) in
     (q .ensures .0, q .ensures .1 ∙ ap length v, q .ensures .2 ∙ ap (λ (l : List ℕ). onto l (a .t .now)) v)
 
 pub put-box-spec : {M : Type 1} → statement M

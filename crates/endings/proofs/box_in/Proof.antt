@@ -11,6 +11,9 @@ use native.Mathlib.Omega.{arith}
 use Rattle.endings.proofs.box_in.Statement.{statement}
 use Rattle.endings.proofs.box_in.Tie as tie
 
+cast-at : tie.Need-cast-at
+cast-at c = search needs
+
 mul-result : tie.Need-mul-result
 mul-result c = search needs
 
@@ -19,7 +22,10 @@ element-copy-out-result c = search needs
 
 returns : tie.Need-returns
 unfolding boxIn
-returns c = let a = c .before .args in let n : length (a .t1 .boxes) ≡ 12 = sym (length-map (a .t1 .boxes) (held.the-type .to)) ∙ c .before .good .0 .1 .1 .0 .1 .0 .1 in any-default (a .t1 .boxes) (a .p) _ (fresh (boxNo 0)) (omega (arith, c .before .pre))
+returns c =
+    let a = c .before .before .args in
+    let n : length (a .t1 .boxes) ≡ 12 = sym (length-map (a .t1 .boxes) (held.the-type .to)) ∙ c .before .before .good .0 .1 .1 .0 .1 .0 .1 in
+    any-default (a .t1 .boxes) (a .p .0) _ (fresh (boxNo 0)) (omega (arith, c .before .before .pre))
 
 pub box-in-spec : {M : Type 1} → statement M
-box-in-spec = tie.close (tie.spec mul-result element-copy-out-result returns)
+box-in-spec = tie.close (tie.spec cast-at mul-result element-copy-out-result returns)

@@ -13,18 +13,18 @@ size-of-requires c κs = search needs
 named-requires : tie.Need-named-requires
 named-requires c κs = search needs
 
-mul-listed-in : tie.Need-mul-listed-in
+mul-low : tie.Need-mul-low
 unfolding sizeOf
-mul-listed-in c = let s : c .before .size-of .result ≡ 3 = c .before .size-of .ensures .0 in rw s (omega (arith, c .before .before .pre))
+mul-low c = let s : c .before .before .size-of .result ≡ 3 = c .before .before .size-of .ensures .0 in rw s (omega (arith, c .before .before .before .pre))
 
 listed-in-requires : tie.Need-listed-in-requires
 unfolding sizeOf
-listed-in-requires c κs = let s : c .before .size-of .result ≡ 3 = c .before .size-of .ensures .0 in rw s (omega (arith, c .before .before .pre))
+listed-in-requires c κs = let s : c .before .before .size-of .result ≡ 3 = c .before .before .size-of .ensures .0 in rw s (omega (arith, c .before .before .before .pre))
 
 returns : tie.Need-returns
 unfolding doneIn
-returns c = rw (c .listed-in .ensures, c .before .named .ensures, c .before .before .size-of .ensures .0)
+returns c = rw (c .listed-in .ensures, c .before .before .named .ensures, c .before .before .before .size-of .ensures .0)
 
 pub done-in-spec : {M : Type 1} → statement M
 done-in-spec =
-    tie.close (tie.spec size-of-requires named-requires mul-listed-in listed-in-requires returns)
+    tie.close (tie.spec size-of-requires named-requires mul-low listed-in-requires returns)

@@ -11,7 +11,7 @@ use Rattle.endings.proofs.listed_in.Statement.{statement}
 use Rattle.endings.proofs.listed_in.Tie as tie
 
 abbrev Inv-loop : tie.InvT-loop
-Inv-loop night job low size found₀ i₀ found i = (i ≤ size) × (found ≡ listedIn night job low i)
+Inv-loop night job low size found₀ i₀ found i = (i ≤ size) × (found ≡ listedIn night job (low .0) i)
 
 abbrev μ-loop : tie.MeasureT-loop
 μ-loop night job low size found₀ i₀ found i = size - i
@@ -20,8 +20,8 @@ loop-holds : tie.Need-loop-holds Inv-loop μ-loop
 unfolding listedIn someBelow
 loop-holds c = (search needs, refl)
 
-add-box-in : tie.Need-add-box-in Inv-loop μ-loop
-add-box-in c = search needs
+add-p : tie.Need-add-p Inv-loop μ-loop
+add-p c = search needs
 
 box-in-requires : tie.Need-box-in-requires Inv-loop μ-loop
 box-in-requires c κs = search needs
@@ -38,16 +38,16 @@ loop-less c = search needs
 loop-again : tie.Need-loop-again Inv-loop μ-loop
 unfolding listedIn
 loop-again c =
-    let a = c .before .before .before .before .args in
-    let l = c .before .before .before .loop in
-    (omega arith, rw (l .inv .1, c .on-list .ensures, c .before .box-in .ensures) (some-step (λ (i : ℕ). onList (boxIn (a .night) (a .low + i)) (a .job)) (l .i)))
+    let a = c .before .before .before .before .before .args in
+    let l = c .before .before .before .before .loop in
+    (omega arith, rw (l .inv .1, c .on-list .ensures, c .before .box-in .ensures) (some-step (λ (i : ℕ). onList (boxIn (a .night) (a .low .0 + i)) (a .job)) (l .i)))
 
 returns : tie.Need-returns Inv-loop μ-loop
 returns c =
     let a = c .before .before .args in
     let l = c .before .loop in
     let e : l .i ≡ a .size = omega arith in
-    l .inv .1 ∙ ap (listedIn (a .night) (a .job) (a .low)) e
+    l .inv .1 ∙ ap (listedIn (a .night) (a .job) (a .low .0)) e
 
 pub listed-in-spec : {M : Type 1} → statement M
 listed-in-spec =
@@ -56,7 +56,7 @@ listed-in-spec =
     Inv-loop
     μ-loop
     loop-holds
-    add-box-in
+    add-p
     box-in-requires
     on-list-requires
     add-i

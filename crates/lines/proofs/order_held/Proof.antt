@@ -1,19 +1,19 @@
 -- `lines::order_held` meets its contract.
-use Rattle.lines.specs.Held.{orderHeld}
-use Rattle.laws.specs.Choice.{pick-true, pick-false}
-use borrow.Author.Tests.{lt-ltb, le-ltb}
-use lib.ListN.{length}
+use Rattle.lines.specs.ReadLaws.{long-read}
+use lib.ListN.{length, length-take}
 use native.Mathlib.Omega.{arith}
 use native.Mathlib.Nat.{sub-zero}
-use mathlib.Core.Path.{_≡_, sym, _∙_}
+use mathlib.Core.Path.{_≡_}
 use Prim.Native.Nat.{_≤_}
 use borrow.Author.Needs.{needs}
 use Rattle.lines.proofs.order_held.Statement.{statement}
 use Rattle.lines.proofs.order_held.Tie as tie
 
 returns : tie.Need-returns
-unfolding orderHeld
-returns c = sym (pick-true _ _ (lt-ltb _ _ (c .if1 .taken)))
+returns c =
+    let line = c .before .args .line in
+    let k : length (line .bytes) ≡ 32 = search needs in
+    long-read line (rw length-take (omega (arith, c .if1 .taken)))
 
 sub-order-of-line : tie.Need-sub-order-of-line
 sub-order-of-line c = search needs
@@ -31,8 +31,7 @@ order-of-line-requires : tie.Need-order-of-line-requires
 order-of-line-requires c κs = search needs
 
 returns-2 : tie.Need-returns-2
-unfolding orderHeld
-returns-2 c = c .order-of-line .ensures ∙ rw sub-zero (sym (pick-false _ _ (le-ltb _ _ (c .before .before .before .before .if1 .left))))
+returns-2 c = rw sub-zero at (c .order-of-line .ensures)
 
 pub order-held-spec : {M : Type 1} → statement M
 order-held-spec =

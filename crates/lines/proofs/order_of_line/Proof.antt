@@ -1,5 +1,6 @@
 -- `lines::order_of_line` meets its contract.
 use Rattle.lines.specs.Orders.{orderOfWords, orderOfLine}
+use Rattle.lines.specs.ReadLaws.{line-read}
 use Rattle.words.specs.PartLaws.{words-cut, words-whole}
 use Rattle.laws.specs.Tray.{rest-of}
 use Rattle.laws.specs.Choice.{pick-true, pick-false}
@@ -13,7 +14,7 @@ use Rattle.lines.proofs.order_of_line.Tie as tie
 
 returns : tie.Need-returns
 unfolding orderOfLine
-returns c = sym (pick-true _ _ (lt-ltb _ _ (c .if1 .taken)))
+returns c = line-read (c .before .before .args .line .now) (sym (pick-true _ _ (lt-ltb _ _ (c .if1 .taken))))
 
 first-space-requires : tie.Need-first-space-requires
 first-space-requires c κs = search needs
@@ -47,15 +48,15 @@ unfolding orderOfLine
 returns-2 c =
     let line = c .before .before .before .before .before .before .before .args .line .now in
     let k = c .before .before .before .before .first-space in
-    c .order-of-rest .ensures ∙ rw (sub-zero, rest-of (k .result + 1) line)
-    (sym (ap orderOfWords (words-cut line (k .result) (k .ensures .1) (c .before .before .before .if2 .taken))) ∙ sym (pick-false _ _ (le-ltb _ _ (c .before .before .before .before .before .if1 .left))))
+    line-read line (c .order-of-rest .ensures ∙ rw (sub-zero, rest-of (k .result + 1) line)
+    (sym (ap orderOfWords (words-cut line (k .result) (k .ensures .1) (c .before .before .before .if2 .taken))) ∙ sym (pick-false _ _ (le-ltb _ _ (c .before .before .before .before .before .if1 .left)))))
 
 returns-3 : tie.Need-returns-3
 unfolding orderOfLine orderOfWords
 returns-3 c =
     let line = c .before .before .before .before .args .line .now in
     let k = c .before .first-space in
-    sym (pick-false _ _ (le-ltb _ _ (c .before .before .if1 .left)) ∙ ap orderOfWords (words-whole line (k .result) (k .ensures .1) (c .if2 .left)))
+    line-read line (sym (pick-false _ _ (le-ltb _ _ (c .before .before .if1 .left)) ∙ ap orderOfWords (words-whole line (k .result) (k .ensures .1) (c .if2 .left))))
 
 pub order-of-line-spec : {M : Type 1} → statement M
 order-of-line-spec =

@@ -1,5 +1,6 @@
 -- `lines::push` meets its contract.
 use Rattle.lines.specs.Held.{pushed}
+use Rattle.lines.specs.ReadLaws.{byte-held}
 use Rattle.laws.specs.Choice.{pick-true, pick-false}
 use borrow.Author.Tests.{lt-ltb, le-ltb}
 use mathlib.Core.Path.{sym}
@@ -9,7 +10,7 @@ use Rattle.lines.proofs.push.Tie as tie
 
 returns : tie.Need-returns
 unfolding pushed
-returns c = sym (pick-true _ _ (lt-ltb _ _ (c .if1 .taken)))
+returns c = byte-held _ _ (sym (pick-true _ _ (lt-ltb _ _ (c .if1 .taken))))
 
 array-write-bytes : tie.Need-array-write-bytes
 array-write-bytes c = search needs
@@ -19,7 +20,7 @@ add-t8 c = search needs
 
 returns-2 : tie.Need-returns-2
 unfolding pushed
-returns-2 c = sym (pick-false _ _ (le-ltb _ _ (c .before .if1 .left)))
+returns-2 c = byte-held _ _ (sym (pick-false _ _ (le-ltb _ _ (c .before .if1 .left))))
 
 pub push-spec : {M : Type 1} → statement M
 push-spec = tie.close (tie.spec returns array-write-bytes add-t8 returns-2)

@@ -34,7 +34,7 @@ returns c =
     let a = c .before .before .before .before .before .before .before .before .before .before .args in
     let p = c .before .before .before .before .before .before .put-titled in
     let q = c .before .before .put-list in
-    let title = titled (98 ∷ 111 ∷ 120 ∷ []) (a .number) in
+    let title = titled (98 ∷ 111 ∷ 120 ∷ []) (a .number .0) in
     let s = then title (listText (a .list) (a .count)) (a .t .now) (p .last .1 .1 .0) (q .last .1 .1 .0) (p .result) (q .result) (p .ensures .1) (p .ensures .2) (q .ensures .1) (q .ensures .2) in
     (omega (arith, p .ensures .0, q .ensures .0), s .0, s .1)
 

@@ -60,9 +60,9 @@ returns c =
     let q = c .before .before .before .before .before .before .before .before .put-stamp in
     let e = c .before .before .put-either in
     let title = titled (106 ∷ 111 ∷ 98 ∷ []) (a .job) in
-    let stamp = stampText (a .committed) (a .time) (a .district) in
+    let stamp = stampText (a .committed) (a .stamp .time) (a .stamp .district .0) in
     let word : List ℕ = pick (a .finished) (space ∷ 121 ∷ 101 ∷ 115 ∷ lineFeed ∷ []) (space ∷ 110 ∷ 111 ∷ lineFeed ∷ []) in
-    let s = then title stamp (a .t .now) (p .last .1 .1 .0) (q .last .1 .1 .1 .0) (p .result) (q .result) (p .ensures .1) (p .ensures .2) (q .ensures .1) (q .ensures .2) in
+    let s = then title stamp (a .t .now) (p .last .1 .1 .0) (q .last .1 .1 .0) (p .result) (q .result) (p .ensures .1) (p .ensures .2) (q .ensures .1) (q .ensures .2) in
     let u = then (title ++ stamp) word (a .t .now) _ (e .last .1 .1 .1 .0) (p .result + q .result) (e .result) (s .0) (s .1) (e .ensures .1) (e .ensures .2) in
     (omega (arith, p .ensures .0, q .ensures .0, e .ensures .0), u .0, u .1)
 

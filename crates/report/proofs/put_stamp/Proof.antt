@@ -31,7 +31,7 @@ part-put-decimal-end : tie.Need-part-put-decimal-end
 part-put-decimal-end c = search needs
 
 put-decimal-requires : tie.Need-put-decimal-requires
-put-decimal-requires c κs = let m = decimal-most (c .before .before .before .before .before .before .before .before .args .time) in search needs
+put-decimal-requires c κs = let m = decimal-most (c .before .before .before .before .before .before .before .before .args .stamp .time) in search needs
 
 add-b : tie.Need-add-b
 add-b c = search needs
@@ -61,9 +61,9 @@ returns c =
     let p = c .before .before .before .before .before .before .before .before .before .before .put in
     let d = c .before .before .before .before .before .before .put-decimal in
     let q = c .before .before .put-item in
-    let v : stampText (a .committed) (a .time) (a .district) ≡ item (a .time) ++ item (a .district) = pick-true _ _ (c .before .before .before .before .before .before .before .before .before .before .before .before .before .if1 .taken) in
-    let s = then (space ∷ []) (decimal (a .time)) (a .t .now) (p .last .1 .0) (d .last .1 .0) (p .result) (d .result) (p .ensures .0) (p .ensures .1) (d .ensures .1) (d .ensures .2) in
-    let u = then (item (a .time)) (item (a .district)) (a .t .now) _ (q .last .1 .0) (p .result + d .result) (q .result) (s .0) (s .1) (q .ensures .1) (q .ensures .2) in
+    let v : stampText (a .committed) (a .stamp .time) (a .stamp .district .0) ≡ item (a .stamp .time) ++ item (a .stamp .district .0) = pick-true _ _ (c .before .before .before .before .before .before .before .before .before .before .before .before .before .if1 .taken) in
+    let s = then (space ∷ []) (decimal (a .stamp .time)) (a .t .now) (p .last .1 .0) (d .last .1 .0) (p .result) (d .result) (p .ensures .0) (p .ensures .1) (d .ensures .1) (d .ensures .2) in
+    let u = then (item (a .stamp .time)) (item (a .stamp .district .0)) (a .t .now) _ (q .last .1 .0) (p .result + d .result) (q .result) (s .0) (s .1) (q .ensures .1) (q .ensures .2) in
     (omega (arith, p .ensures .0, d .ensures .0, q .ensures .0), u .0 ∙ ap length (sym v), u .1 ∙ ap (λ (l : List ℕ). onto l (a .t .now)) (sym v))
 
 slice-aggregate-put-2 : tie.Need-slice-aggregate-put-2
@@ -80,7 +80,7 @@ unfolding stampText
 returns-2 c =
     let a = c .before .before .before .before .before .before .before .args in
     let p = c .before .before .put2 in
-    let v : stampText (a .committed) (a .time) (a .district) ≡ space ∷ 45 ∷ space ∷ 45 ∷ [] = pick-false _ _ (c .before .before .before .before .before .if1 .left) in
+    let v : stampText (a .committed) (a .stamp .time) (a .stamp .district .0) ≡ space ∷ 45 ∷ space ∷ 45 ∷ [] = pick-false _ _ (c .before .before .before .before .before .if1 .left) in
     (omega (arith, p .ensures .0), p .ensures .0 ∙ ap length (sym v), p .ensures .1 ∙ ap (λ (l : List ℕ). onto l (a .t .now)) (sym v))
 
 pub put-stamp-spec : {M : Type 1} → statement M

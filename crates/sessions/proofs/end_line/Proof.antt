@@ -4,6 +4,7 @@ use Rattle.hearing.specs.declared.Heard.{Heard}
 use Rattle.hearing.specs.Heard.{After, handled, heardOf}
 use Rattle.lines.specs.Feed.{lineEnd}
 use Rattle.lines.specs.Held.{noLine}
+use Rattle.lines.specs.ReadLaws.{held-is, nothing-is}
 use Rattle.laws.specs.Tray.{onto}
 use mathlib.Core.Path.{ap, _∙_}
 use borrow.Author.Needs.{needs}
@@ -30,12 +31,14 @@ unfolding lineEnd act
 returns c =
     let a = c .before .before .before .before .before .before .before .before .before .before .before .before .before .before .before .before .args in
     let q = c .before .before .before .before .before .before .before .hear in
-    let e = ap (handled (a .s .desk) (a .s .night) (a .post .now)) (c .before .before .before .before .before .before .before .before .before .before .order-held .ensures) in
+    let e = ap (handled (a .s .desk) (a .s .night) (a .post .now)) (held-is (a .s .line) (c .before .before .before .before .before .before .before .before .before .before .order-held .ensures)) in
     let h = q .ensures .1 ∙ ap heardOf e in (
       q .ensures .0,
-      rw (c .no-line .ensures) (ap (λ (x : Heard). record { session = record { line = noLine; desk = x .desk; night = x .night }; used = x .used }) h),
-      q .ensures .2 ∙ ap (λ (x : After). x .post) e,
-      q .ensures .3 ∙ ap (λ (x : After). onto (x .text) (a .t .now)) e,
+      record {
+        fed = rw (nothing-is (c .no-line .ensures)) (ap (λ (x : Heard). record { session = record { line = noLine; desk = x .desk; night = x .night }; used = x .used }) h);
+        post = q .ensures .2 ∙ ap (λ (x : After). x .post) e;
+        text = q .ensures .3 ∙ ap (λ (x : After). onto (x .text) (a .t .now)) e;
+      },
     )
 
 pub end-line-spec : {M : Type 1} → statement M

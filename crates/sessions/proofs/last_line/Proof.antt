@@ -12,9 +12,9 @@ use Rattle.sessions.proofs.last_line.Tie as tie
 returns : tie.Need-returns
 unfolding lastOf
 returns c =
-    let a = c .before .before .before .before .before .args in
+    let a = c .before .before .before .before .args in
     let v : within (a .s) (a .post .now) ≡ lastOf (a .s) (a .post .now) = sym (pick-true _ _ (eq-eqb _ _ (c .if1 .taken))) in
-    (search needs, ap fedOf v, ap (λ (r : Reading World). r .state .post) v, sym (onto-nil (a .t .now)) ∙ ap (λ (r : Reading World). onto (r .state .text) (a .t .now)) v)
+    record { fed = ap fedOf v; post = ap (λ (r : Reading World). r .state .post) v; text = sym (onto-nil (a .t .now)) ∙ ap (λ (r : Reading World). onto (r .state .text) (a .t .now)) v }
 
 end-line-requires : tie.Need-end-line-requires
 end-line-requires c κs = search needs
@@ -22,16 +22,13 @@ end-line-requires c κs = search needs
 same-length : tie.Need-same-length
 same-length c = search needs
 
-same-length-2 : tie.Need-same-length-2
-same-length-2 c = search needs
-
 returns-2 : tie.Need-returns-2
 unfolding lastOf
 returns-2 c =
-    let a = c .before .before .before .before .before .before .before .before .before .before .before .before .args in
-    let q = c .before .before .before .before .end-line in
-    let v : lineOf (a .s) (a .post .now) ≡ lastOf (a .s) (a .post .now) = sym (pick-false _ _ (ne-eqb _ _ (c .before .before .before .before .before .before .before .if1 .left))) in
-    (q .ensures .0, q .ensures .1 ∙ ap fedOf v, q .ensures .2 ∙ ap (λ (r : Reading World). r .state .post) v, q .ensures .3 ∙ ap (λ (r : Reading World). onto (r .state .text) (a .t .now)) v)
+    let a = c .before .before .before .before .before .before .before .before .before .args in
+    let q = c .before .before .end-line .ensures .1 in
+    let v : lineOf (a .s) (a .post .now) ≡ lastOf (a .s) (a .post .now) = sym (pick-false _ _ (ne-eqb _ _ (c .before .before .before .before .before .if1 .left))) in
+    record { fed = q .fed ∙ ap fedOf v; post = q .post ∙ ap (λ (r : Reading World). r .state .post) v; text = q .text ∙ ap (λ (r : Reading World). onto (r .state .text) (a .t .now)) v }
 
 pub last-line-spec : {M : Type 1} → statement M
-last-line-spec = tie.close (tie.spec returns end-line-requires same-length same-length-2 returns-2)
+last-line-spec = tie.close (tie.spec returns end-line-requires same-length returns-2)
