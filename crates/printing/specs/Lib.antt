@@ -1,4 +1,5 @@
--- Which bytes the rehearse program prints for an input, in whatever pieces it comes, and what a run of the program is.
+-- Which bytes the rehearse program prints for an input, in whatever pieces it comes, what a run of the program is, and that it prints these bytes.
 pub mod Printed
 pub mod Turns
 pub mod Laws
+pub mod Program

@@ -1,0 +1,27 @@
+-- The program's promises together: a fresh session, all turns, and the last words behind them print what is printed for the bytes that were read.
+use Prim.Native.Nat.{ℕ}
+use mathlib.Core.List.{List, _++_, map}
+use mathlib.Core.Path.{_≡_, refl, ap, _∙_}
+use lib.ListN.{take}
+use Rattle.lines.specs.Feed.{joined}
+use Rattle.sessions.specs.declared.Session.{Session}
+use Rattle.sessions.specs.Session.{freshSession}
+use Rattle.sessions.specs.Promises.{Begun, only-begun}
+use Rattle.printing.specs.declared.Next.{Next}
+use Rattle.printing.specs.Printed.{printedOn, lastWords, LastSaid}
+use Rattle.printing.specs.Turns.{given, readIn, Ran, behindTurns, wrote, run-prints}
+use Rattle.printing.specs.Laws.{text-front}
+
+begun-fresh : Begun freshSession
+unfolding freshSession
+begun-fresh = record { line = refl; desk = refl; night = refl }
+
+-- the texts of all turns, and behind them the n bytes of the last words
+pub program-prints : {s r : Session} {lent later last before after : List ℕ} {next : Next} {n : ℕ} → Begun s → (run : Ran s lent r next later) → LastSaid r later before n last after
+    → readIn s lent (run .some .turns) .state .text ++ take n after ≡ printedOn lent (joined (map given (run .some .turns)))
+unfolding wrote behindTurns
+program-prints {s = s} {r = r} {lent = lent} {later = later} {before = before} {after = after} {n = n} b run l =
+    let e = only-begun b begun-fresh in
+    let ts = run .some .turns in
+    ap (λ (x : List ℕ). readIn s lent ts .state .text ++ x) (text-front (lastWords r later) before after n (l .used) (l .text))
+    ∙ rw (run .some .session, run .some .post, e) (run-prints lent ts)
