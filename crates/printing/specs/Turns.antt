@@ -43,12 +43,19 @@ Decided got written r = r ≡ nextOf got written
 pub only-decided : (got : ℤ) (written : Bool) {r q : Next} → Decided got written r → Decided got written q → r ≡ q
 only-decided got written a b = a ∙ sym b
 
--- `goes_on`
+-- there is another turn only after More
 abbrev pub goesOn : Next → Bool
 goesOn More = true
 goesOn End = false
 goesOn ReadFailed = false
 goesOn WriteFailed = false
+
+-- `goes_on`
+abbrev pub Told : Next → Bool → Type 0
+Told next r = r ≡ goesOn next
+
+pub only-told : (next : Next) {r q : Bool} → Told next r → Told next q → r ≡ q
+only-told next a b = a ∙ sym b
 
 -- ---- a run
 

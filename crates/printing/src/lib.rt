@@ -11,7 +11,7 @@ ghost use Rattle.laws.specs.Tray.{onto};
 ghost use Rattle.texts.specs.Texts.{answerMost};
 ghost use Rattle.closing.specs.Closing.{reportMost};
 ghost use Rattle.printing.specs.declared.Next.the-variants.{More, End, ReadFailed, WriteFailed};
-ghost use Rattle.printing.specs.Turns.{goesOn, Decided};
+ghost use Rattle.printing.specs.Turns.{Decided, Told};
 ghost use Rattle.printing.specs.Printed.{LastSaid};
 use sessions::Session;
 
@@ -62,7 +62,7 @@ pub fn next_of(got: isize, written: bool) -> Next
 
 // whether there is another turn
 pub fn goes_on(next: Next) -> bool
-    ensures { λ r. ⌜ r ≡ goesOn next ⌝ }
+    ensures { λ r. ⌜ Told next r ⌝ }
 {
     match next {
         Next::More => true,
