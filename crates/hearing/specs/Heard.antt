@@ -4,6 +4,7 @@ use mathlib.Core.Bool.{Bool, true, false}
 use mathlib.Core.List.{List, []}
 use lib.ListN.{length}
 use Rattle.laws.specs.Choice.{pick}
+use Rattle.records.specs.Answers.{unreadable}
 use Rattle.records.specs.declared.Answer.{Answer}
 use Rattle.records.specs.declared.Answer.the-variants.{Done, No}
 use Rattle.rehearsal.specs.declared.Night.{Night}
@@ -34,7 +35,7 @@ turnText (No k) n = answerText true k
 
 -- a line that is unreadable or misplaced prints `no 3`
 abbrev pub unread : List ℕ
-unread = answerText true 3
+unread = answerText true unreadable
 
 -- and changes nothing
 abbrev pub passed : Desk → Night → List ℕ → After

@@ -34,7 +34,7 @@ fn hear_unread(desk: Desk, night: Night, t: &mut [u8]) -> Heard
     requires { ⌜ answerMost ≤ length (now t) ⌝ }
     ensures { λ r. ⌜ (r .used ≤ answerMost) × (r ≡ heardOf (passed desk night [])) × (now (t .exit) ≡ onto unread (now (t .entry))) ⌝ }
 {
-    let used = texts::answer_line(true, 3, t);
+    let used = texts::answer_line(true, records::UNREADABLE as u32, t);
     Heard {
         desk: desk,
         night: night,

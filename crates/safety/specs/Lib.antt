@@ -1,4 +1,4 @@
--- Demand 3: the order theorem of White-Box Atomic Multicast over the world's steps. Nothing rests on this crate.
+-- Demand 3: the order theorem of White-Box Atomic Multicast over the steps of the world. Only `rehearsed` and `shown` rest on this crate.
 -- What is proved stands in the crate demand3, the theorem in Proved; the invariants in Inv, their words in Notions.
 -- words and statements
 pub mod Compare
