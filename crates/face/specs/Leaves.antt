@@ -1,5 +1,5 @@
 -- THE THEOREM OF THE FACE: a step from a sound box leaves a sound box; each record that it wrote is read back by the reader as itself and is
--- addressed as document 01 says; all of them fit. Said of the promises of the public functions.
+-- addressed as document 01 says; all of them fit (`face`). Said of the promises of the public functions.
 use Prim.Native.Nat.{ℕ, _≤_, _<_}
 use mathlib.Core.Bool.{true}
 use mathlib.Core.List.{List}
@@ -10,6 +10,7 @@ use lib.Dec.{leb}
 use Rattle.laws.specs.Place.{In}
 use Rattle.laws.specs.Tray.{onto, onto-front}
 use Rattle.house.specs.Limits.{leastTray}
+use Rattle.house.specs.Pairs.{boxNo}
 use Rattle.house.specs.declared.BoxNo.{BoxNo}
 use Rattle.plans.specs.Plan.{boxesOf, officeOf, homeOf, names, planSound}
 use Rattle.plans.specs.declared.Plan.{Plan}
@@ -22,19 +23,20 @@ use Rattle.records.specs.declared.Answer.{Answer}
 use Rattle.records.specs.declared.Answer.the-variants.{Done, No}
 use Rattle.boxes.specs.Sound.{sound}
 use Rattle.boxes.specs.Out.{Out, refused, does, recordsOf}
-use Rattle.boxes.specs.Step.{receives, mayPost, postedRecords}
+use Rattle.boxes.specs.Step.{receives, mayPost}
 use Rattle.boxes.specs.Promise.{Says, Stepped, boxAfter}
 use Rattle.boxes.specs.declared.BoxState.{BoxState}
 use Rattle.boxes.specs.declared.Outcome.{Outcome}
 use Rattle.spelling.specs.Readback.{read-encoded}
 use Rattle.keeps.specs.Sound.{Lengths, sound-is}
+use Rattle.keeps.specs.Fresh.{fresh-is-sound, fresh-lengths}
 use Rattle.keeps.specs.Sends.{Every, no-step, a-step, every-guard, AllGood, good-nil}
 use Rattle.keeps.specs.Size.{longestOutput}
 use Rattle.keeps.specs.Goods.{Keeps, fits-none}
 use Rattle.keeps.specs.Steps.{takes-every, retried-every, stood-every, cut-off-every, posts-good, posts-fit}
 use Rattle.reach.specs.Boxes.{good-box}
 use Rattle.collector.specs.Face.{parse-sized, sound-plan}
-use Rattle.collector.specs.Promises.{BytesReceived, JobRetried, BoxStood, BoxCut, JobPosted}
+use Rattle.collector.specs.Promises.{BoxFresh, BytesReceived, JobRetried, BoxStood, BoxCut, JobPosted}
 use Rattle.collector.specs.declared.Posted.{Posted}
 
 -- record m, from this sender, goes where document 01 sends it: to a box, and in kinds 1 to 4 to one of a district that the job names
@@ -101,27 +103,27 @@ module _ {P : Plan} {x : BoxState} (s : sound P x ≡ true) (L : Lengths x) wher
       every-guard (sound P x) _ _ (λ a. every-guard (leb leastTray room) _ _ (λ b. every-guard (shaped P bytes) _ _ (λ c. takes-every P x room (parse P bytes) L (parse-sized P bytes (sound-plan P x s)))))
 
   -- receive
-  pub receive-leaves : (bytes : List ℕ) {before : List ℕ} {r : Outcome} {after : List ℕ} → BytesReceived P x bytes before r after
+  receive-leaves : (bytes : List ℕ) {before : List ℕ} {r : Outcome} {after : List ℕ} → BytesReceived P x bytes before r after
       → Stays P x (r .state) × Sent P (x .core .own) (r .records) (r .used) after
   receive-leaves bytes {before} p = let e = received-every (length before) bytes in (said-stays e (p .says), stepped-sent e p)
 
   -- retry_job
-  pub retry-leaves : (j : ℕ) {before : List ℕ} {r : Outcome} {after : List ℕ} → JobRetried P x j before r after
+  retry-leaves : (j : ℕ) {before : List ℕ} {r : Outcome} {after : List ℕ} → JobRetried P x j before r after
       → Stays P x (r .state) × Sent P (x .core .own) (r .records) (r .used) after
   retry-leaves j {before} p = let e = retried-every P x j (length before) L in (said-stays e (p .says), stepped-sent e p)
 
   -- stand_up
-  pub stand-leaves : {before : List ℕ} {r : Outcome} {after : List ℕ} → BoxStood P x before r after → Stays P x (r .state) × Sent P (x .core .own) (r .records) (r .used) after
+  stand-leaves : {before : List ℕ} {r : Outcome} {after : List ℕ} → BoxStood P x before r after → Stays P x (r .state) × Sent P (x .core .own) (r .records) (r .used) after
   stand-leaves {before} p = let e = stood-every P x (length before) L in (said-stays e (p .says), stepped-sent e p)
 
   -- cut_off
-  pub cut-leaves : {r : Outcome} → BoxCut P x r → Stays P x (r .state)
+  cut-leaves : {r : Outcome} → BoxCut P x r → Stays P x (r .state)
   cut-leaves p = said-stays (cut-off-every P x L) p
 
 -- ---- a post
 
 -- post_job: from the office, under a sound plan
-pub post-leaves : {P : Plan} {j : ℕ} {before : List ℕ} {p : Posted} {after : List ℕ} → planSound P ≡ true → JobPosted P j before p after
+post-leaves : {P : Plan} {j : ℕ} {before : List ℕ} {p : Posted} {after : List ℕ} → planSound P ≡ true → JobPosted P j before p after
     → Sent P (officeOf P) (p .records) (p .used) after
 post-leaves {P} {j} {before} {p} {after} s h = go (mayPost P j (length before)) refl
   where
@@ -130,3 +132,29 @@ post-leaves {P} {j} {before} {p} {after} s h = go (mayPost P j (length before)) 
         sent (p .records) (p .used) before after s (posts-good P j s) (posts-fit P j s) (h .records ∙ rw e) (h .used ∙ rw e) (h .tray ∙ rw e)
     go (No n) e =
         sent (p .records) (p .used) before after s good-nil (fits-none P) (h .records ∙ rw e) (h .used ∙ rw e) (h .tray ∙ rw e)
+
+-- ---- all of them
+
+-- what a step from a sound box leaves: the box after it, and what stands in its tray
+abbrev pub Leaves : Plan → BoxState → Outcome → List ℕ → Type 0
+Leaves P x r after = Stays P x (r .state) × Sent P (x .core .own) (r .records) (r .used) after
+
+pub record Face (P : Plan) : Type 0 where
+  pub receive : (x : BoxState) → sound P x ≡ true → Lengths x → (bytes before : List ℕ) (r : Outcome) (after : List ℕ) → BytesReceived P x bytes before r after → Leaves P x r after
+  pub retry : (x : BoxState) → sound P x ≡ true → Lengths x → (j : ℕ) (before : List ℕ) (r : Outcome) (after : List ℕ) → JobRetried P x j before r after → Leaves P x r after
+  pub stand : (x : BoxState) → sound P x ≡ true → Lengths x → (before : List ℕ) (r : Outcome) (after : List ℕ) → BoxStood P x before r after → Leaves P x r after
+  pub cut : (x : BoxState) → sound P x ≡ true → Lengths x → (r : Outcome) → BoxCut P x r → Stays P x (r .state)
+  pub post : planSound P ≡ true → (j : ℕ) (before : List ℕ) (p : Posted) (after : List ℕ) → JobPosted P j before p after → Sent P (officeOf P) (p .records) (p .used) after
+  -- and there is a box to begin with
+  pub fresh : planSound P ≡ true → (p : ℕ) → p < boxesOf P → (x : BoxState) → BoxFresh (boxNo p) x → (sound P x ≡ true) × Lengths x
+
+pub face : (P : Plan) → Face P
+face P =
+    record {
+      receive = λ x s L bytes before r after p. receive-leaves s L bytes p;
+      retry = λ x s L j before r after p. retry-leaves s L j p;
+      stand = λ x s L before r after p. stand-leaves s L p;
+      cut = λ x s L r p. cut-leaves s L p;
+      post = λ s j before p after h. post-leaves s h;
+      fresh = λ s p l x e. (rw e (fresh-is-sound P p s l), rw e (fresh-lengths (boxNo p)));
+    }
