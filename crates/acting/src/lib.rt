@@ -1,6 +1,6 @@
 // A record that passed the tests 1 to 5 is acted on: its kind decides which step it is.
 ghost use mathlib.Core.Path.{_≡_};
-ghost use Prim.Native.Nat.{ℕ, _≤_, _<_};
+ghost use Prim.Native.Nat.{_≤_, _<_};
 ghost use lib.ListN.{length};
 ghost use Rattle.laws.specs.Tray.{onto};
 ghost use Rattle.records.specs.Rec.{meaning};

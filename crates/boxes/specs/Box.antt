@@ -1,13 +1,13 @@
 -- The box: what stands at a place of it, a fresh one, and the changes that steps make.
 use Prim.Native.Nat.{ℕ, _+_, _-_, _*_}
-use mathlib.Core.Bool.{Bool, true, false, not, _&&_, _||_}
+use mathlib.Core.Bool.{Bool, true, false}
 use mathlib.Core.List.{List}
 use lib.ListN.{getD, set, replicate}
-use lib.Dec.{ltb, eqb}
+use lib.Dec.{eqb}
 use Rattle.laws.specs.Choice.{pick}
 use Rattle.laws.specs.Fold.{someBelow}
 use Rattle.house.specs.Limits.{mostDistricts, mostJobs}
-use Rattle.house.specs.Pairs.{district, boxNo, noStamp, noBallot, noRow}
+use Rattle.house.specs.Pairs.{boxNo, noStamp, noBallot, noRow}
 use Rattle.house.specs.declared.Stamp.{Stamp}
 use Rattle.house.specs.declared.Ballot.{Ballot}
 use Rattle.house.specs.declared.BoxNo.{BoxNo}
@@ -18,7 +18,6 @@ use Rattle.plans.specs.declared.Plan.{Plan}
 use Rattle.marks.specs.Marks.{noMarks}
 use Rattle.records.specs.Rec.{noRows}
 use Rattle.boxes.specs.declared.BoxState.{BoxState}
-use Rattle.boxes.specs.declared.Core.{Core}
 use Rattle.boxes.specs.declared.Volatile.{Volatile}
 use Rattle.boxes.specs.declared.Vote.{Vote}
 use Rattle.boxes.specs.declared.Listed.{Listed}

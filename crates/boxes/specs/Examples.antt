@@ -1,9 +1,9 @@
 -- The fourteen proved examples of document 01: one table of tests about the definitions, and one theorem.
 use Prim.Native.Nat.{ℕ}
-use mathlib.Core.Bool.{Bool, true, false, not, _&&_, _||_}
-use mathlib.Core.List.{List, [], _∷_, _++_, foldl}
+use mathlib.Core.Bool.{Bool, true, false, not, _&&_}
+use mathlib.Core.List.{List, [], _∷_, foldl}
 use mathlib.Core.Path.{_≡_, refl}
-use lib.Count.{ones, onesIn}
+use lib.Count.{ones}
 use lib.ListN.{set, replicate}
 use lib.Dec.{eqb}
 use Rattle.laws.specs.Choice.{pick}
@@ -12,7 +12,7 @@ use Rattle.laws.specs.Digits.{digit, part, withDigit}
 use Rattle.laws.specs.Lex.{larger, largest}
 use Rattle.laws.specs.Majority.{majority}
 use Rattle.house.specs.Limits.{noJob}
-use Rattle.house.specs.Pairs.{district, boxNo, stamp, ballot, noStamp, noBallot, noRow, stampLt, ballotLt, sameStamp, sameBallot, latestStamp, isNoStamp, isNoBallot, timeFits, realBallot}
+use Rattle.house.specs.Pairs.{district, boxNo, stamp, ballot, noStamp, noRow, stampLt, ballotLt, sameStamp, sameBallot, latestStamp, isNoStamp, isNoBallot, timeFits, realBallot}
 use Rattle.house.specs.declared.Stamp.{Stamp}
 use Rattle.house.specs.declared.Ballot.{Ballot}
 use Rattle.house.specs.declared.Row.{Row}

@@ -3,8 +3,8 @@ use Prim.Native.Nat.{ℕ}
 use mathlib.Core.Bool.{Bool, true, false, not, _&&_, _||_}
 use mathlib.Core.List.{List, [], _∷_}
 use mathlib.Core.Path.{_≡_, refl}
-use lib.Dec.{leb, ltb, eqb}
-use Rattle.house.specs.Limits.{mostTime, mostNumber, leastTray}
+use lib.Dec.{ltb, eqb}
+use Rattle.house.specs.Limits.{mostTime}
 use Rattle.house.specs.Pairs.{stampLt, ballotLt, sameBallot}
 use Rattle.house.specs.declared.Ballot.{Ballot}
 use Rattle.house.specs.declared.BoxNo.{BoxNo}
@@ -16,11 +16,10 @@ use Rattle.records.specs.Rec.{Proposal, Handout, Ballotpaper, NewState, newstat
 use Rattle.records.specs.declared.Answer.{Answer}
 use Rattle.records.specs.declared.Answer.the-variants.{Done, No}
 use Rattle.boxes.specs.Box.{isLeader, isRecovering, ownOf, homeIn, rowAt, marksAt, lastStamp, onList, putMarks}
-use Rattle.boxes.specs.Out.{Out, refused, does, guard, toHome}
-use Rattle.boxes.specs.Ready.{handOut, isOpen}
+use Rattle.boxes.specs.Out.{Out, refused, does, guard}
+use Rattle.boxes.specs.Ready.{handOut}
 use Rattle.boxes.specs.Multicast.{proposed, accepts, onMulticast, ballotFits, stampFits, kept, whenKept, onAccept, agree, whenMarked, onAcceptAck, delivered, onDeliver, handing}
 use Rattle.boxes.specs.Leaders.{joined, voteFor, onNewleader, voteOf, votedBy, whenVoted, onNewleaderAck, followed, onNewState, leading, onNewstateAck}
-use Rattle.boxes.specs.Orders.{retries, retry, nextBallot, stand}
 use Rattle.boxes.specs.declared.BoxState.{BoxState}
 use Rattle.boxes.specs.declared.Delivery.the-variants.{Nothing, Job}
 

@@ -1,7 +1,7 @@
 -- Kinds 5 to 8: a box stands, is voted for, merges, hands on the new state and leads (Figure 4, lines 37 to 68).
-use Prim.Native.Nat.{ℕ, _+_}
-use mathlib.Core.Bool.{Bool, true, false, not, _&&_, _||_}
-use mathlib.Core.List.{List, [], _∷_, _++_}
+use Prim.Native.Nat.{ℕ}
+use mathlib.Core.Bool.{Bool, true, false, not, _&&_}
+use mathlib.Core.List.{List, [], _∷_}
 use lib.ListN.{getD, set, replicate}
 use lib.Dec.{leb, ltb, eqb}
 use Rattle.laws.specs.Choice.{pick}
@@ -23,7 +23,7 @@ use Rattle.boxes.specs.Multicast.{raised, handing}
 use Rattle.boxes.specs.declared.BoxState.{BoxState}
 use Rattle.boxes.specs.declared.Vote.{Vote}
 use Rattle.boxes.specs.declared.Status.the-variants.{Follower, Leader, Recovering}
-use Rattle.boxes.specs.declared.Delivery.the-variants.{Nothing, Job}
+use Rattle.boxes.specs.declared.Delivery.the-variants.{Nothing}
 
 -- ---- 5 NEWLEADER (lines 37-41)
 

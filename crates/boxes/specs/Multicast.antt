@@ -1,12 +1,12 @@
 -- Kinds 1 to 4: a job is proposed, accepted, committed and delivered (Figure 4, lines 3 to 31).
-use Prim.Native.Nat.{ℕ, _+_, max}
-use mathlib.Core.Bool.{Bool, true, false, not, _&&_, _||_}
-use mathlib.Core.List.{List, [], _∷_, _++_}
+use Prim.Native.Nat.{ℕ, _+_}
+use mathlib.Core.Bool.{Bool, not, _&&_, _||_}
+use mathlib.Core.List.{List, [], _∷_}
 use lib.ListN.{getD}
-use lib.Dec.{leb, ltb, eqb}
+use lib.Dec.{ltb, eqb}
 use Rattle.laws.specs.Choice.{pick}
 use Rattle.laws.specs.Fold.{upto, allBelow}
-use Rattle.house.specs.Limits.{mostTime, mostDistricts}
+use Rattle.house.specs.Limits.{mostTime}
 use Rattle.house.specs.Pairs.{district, stamp, noStamp, noBallot, stampLt, ballotLt, sameStamp, sameBallot, isNoBallot, laterStamp}
 use Rattle.house.specs.declared.Stamp.{Stamp}
 use Rattle.house.specs.declared.Ballot.{Ballot}

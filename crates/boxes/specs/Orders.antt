@@ -1,17 +1,14 @@
 -- Orders that bring no record: post, retry, stand and cut (Figure 4, lines 1-2, 32-36).
 use Prim.Native.Nat.{ℕ, _+_}
-use mathlib.Core.Bool.{Bool, not, _&&_, _||_}
-use mathlib.Core.List.{List, []}
-use lib.Dec.{leb, ltb, eqb}
-use Rattle.house.specs.Limits.{mostNumber, leastTray}
+use mathlib.Core.List.{List}
+use lib.Dec.{ltb}
+use Rattle.house.specs.Limits.{mostNumber}
 use Rattle.house.specs.declared.Ballot.{Ballot}
-use Rattle.house.specs.declared.BoxNo.{BoxNo}
-use Rattle.plans.specs.Plan.{officeOf, isJob, names, planSound}
+use Rattle.plans.specs.Plan.{officeOf, names}
 use Rattle.plans.specs.declared.Plan.{Plan}
 use Rattle.records.specs.Answers.{notNamed, alreadyDone, atLimit}
 use Rattle.records.specs.Rec.{Rec, multicast, newleader}
-use Rattle.boxes.specs.Box.{ownOf, homeIn, rowAt, freshVolatile}
-use Rattle.boxes.specs.Sound.{sound}
+use Rattle.boxes.specs.Box.{ownOf, homeIn, freshVolatile}
 use Rattle.boxes.specs.Out.{Out, does, guard, toNamed, toHome}
 use Rattle.boxes.specs.Ready.{isOpen}
 use Rattle.boxes.specs.declared.BoxState.{BoxState}

@@ -2,14 +2,13 @@
 -- the delivered job or none; the tray after those bytes is unchanged. No second answer fits it.
 use Prim.Native.Nat.{ℕ}
 use mathlib.Core.Bool.{Bool, true, false}
-use mathlib.Core.List.{List, [], _∷_}
+use mathlib.Core.List.{List, []}
 use mathlib.Core.Path.{_≡_, refl, sym, ap, _∙_}
 use lib.ListN.{length}
 use Rattle.laws.specs.Tray.{onto}
 use Rattle.plans.specs.declared.Plan.{Plan}
 use Rattle.records.specs.Answers.{Answered, one-answer}
 use Rattle.records.specs.Bytes.{encodeAll}
-use Rattle.records.specs.declared.Answer.{Answer}
 use Rattle.boxes.specs.Out.{Out, refused, does, jobsIn, recordsOf, resultOf}
 use Rattle.boxes.specs.declared.BoxState.{BoxState}
 use Rattle.boxes.specs.declared.Delivery.{Delivery}

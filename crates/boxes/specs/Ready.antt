@@ -1,6 +1,6 @@
 -- Ready jobs (Figure 4, lines 21-23 and 66-68): which they are, which is next, and how they are handed out.
 use Prim.Native.Nat.{ℕ}
-use mathlib.Core.Bool.{Bool, true, false, not, _&&_, _||_}
+use mathlib.Core.Bool.{Bool, true, not, _&&_, _||_}
 use mathlib.Core.List.{List, [], _++_}
 use lib.ListN.{set}
 use lib.Dec.{eqb}
@@ -9,7 +9,6 @@ use Rattle.laws.specs.Fold.{upto, allBelow}
 use Rattle.house.specs.Limits.{noJob}
 use Rattle.house.specs.Pairs.{stampLt}
 use Rattle.house.specs.declared.Stamp.{Stamp}
-use Rattle.house.specs.declared.BoxNo.{BoxNo}
 use Rattle.plans.specs.declared.Plan.{Plan}
 use Rattle.records.specs.Rec.{Rec, deliver}
 use Rattle.boxes.specs.Box.{ownOf, rowAt, sentAt, putSent}

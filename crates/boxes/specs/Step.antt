@@ -1,6 +1,5 @@
 -- Each order as it is given to a box: the checks 1 to 5, then what the kind or the order does.
 use Prim.Native.Nat.{ℕ}
-use mathlib.Core.Bool.{Bool, _&&_}
 use mathlib.Core.List.{List, []}
 use lib.Dec.{leb, eqb}
 use Rattle.house.specs.Limits.{leastTray}

@@ -1,7 +1,7 @@
 // The changes that steps make to a box: one function a change. What each means stands in specs/Box.antt of the crate boxes.
 ghost use mathlib.Core.Path.{_≡_};
-ghost use Prim.Native.Nat.{ℕ, _<_};
-ghost use Rattle.boxes.specs.Box.{keptAt, putMode, putTable, putRow, putSent, putListed, putKept, putMarks, putVote};
+ghost use Prim.Native.Nat.{_<_};
+ghost use Rattle.boxes.specs.Box.{putMode, putTable, putRow, putSent, putListed, putKept, putMarks, putVote};
 ghost use Rattle.boxes.specs.Ready.{flagged};
 use boxes::BoxState;
 use boxes::Core;

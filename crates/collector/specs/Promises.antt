@@ -10,7 +10,6 @@ use Rattle.house.specs.declared.BoxNo.{BoxNo}
 use Rattle.plans.specs.declared.Plan.{Plan}
 use Rattle.records.specs.Answers.{Answered, one-answer, answered-of}
 use Rattle.records.specs.Bytes.{encodeAll}
-use Rattle.records.specs.declared.Answer.{Answer}
 use Rattle.boxes.specs.Box.{fresh}
 use Rattle.boxes.specs.Step.{receives, postNo, mayPost, postedRecords, retried, stood, cutOff}
 use Rattle.boxes.specs.Promise.{Says, Stepped, one-outcome, one-step}

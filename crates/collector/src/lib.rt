@@ -2,8 +2,7 @@
 // specs/Promises.antt, what it does in specs/Step.antt of the crate boxes.
 ghost use mathlib.Core.Path.{_≡_};
 ghost use mathlib.Core.Bool.{true};
-ghost use mathlib.Core.List.{List};
-ghost use Prim.Native.Nat.{ℕ, _≤_, _<_};
+ghost use Prim.Native.Nat.{_≤_, _<_};
 ghost use lib.ListN.{length};
 ghost use Rattle.laws.specs.Tray.{onto};
 ghost use Rattle.house.specs.Limits.{leastTray};

@@ -1,6 +1,6 @@
 -- Plan lines as docs/DECISIONS.md reads them (66, 67, 72, 109): numbers that are too large, and lines that are out of place.
-use mathlib.Core.Bool.{Bool, true, false}
-use mathlib.Core.List.{List, [], _∷_, map}
+use mathlib.Core.Bool.{true, false}
+use mathlib.Core.List.{[], _∷_, map}
 use mathlib.Core.Path.{_≡_, refl}
 use lib.ListN.{replicate}
 use Rattle.laws.specs.Choice.{pick}

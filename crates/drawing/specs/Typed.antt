@@ -1,16 +1,16 @@
 -- The plan drawn is sound exactly if the numbers typed are, however large they are and however many: a byte of 255 and a count of 65
 -- stand for all that is larger, and are unsound as well.
-use Prim.Native.Nat.{ℕ, zero, suc, _+_, _-_, _^_, _<_, _≤_}
+use Prim.Native.Nat.{ℕ, _+_, _-_, _^_, _<_, _≤_}
 use mathlib.Core.Bool.{Bool, true, false, _&&_}
 use mathlib.Core.List.{List, [], _∷_, _++_, foldl, map, append-assoc, append-nil}
 use mathlib.Core.Path.{_≡_, refl, sym, ap, _∙_}
 use native.Mathlib.Nat.{zero-add}
 use native.Mathlib.Omega.{arith}
-use lib.ListN.{length, getD, set, replicate, length-map, length-append, List·getD-append, List·getD-map}
+use lib.ListN.{length, getD, replicate, length-map, length-append, List·getD-append, List·getD-map}
 use lib.Dec.{leb, ltb}
 use lib.Pow.{pow-mono}
 use borrow.Author.Tests.{leb-true, leb-false, le-leb, lt-leb, le-ltb}
-use Rattle.laws.specs.Choice.{pick, pick-true, pick-false, look, and-left, and-right}
+use Rattle.laws.specs.Choice.{pick, pick-true, pick-false, and-left, and-right}
 use Rattle.laws.specs.Fold.{allBelow, upto-same}
 use Rattle.laws.specs.Codec.{fill-step}
 use Rattle.house.specs.Limits.{mostDistricts, mostJobs}

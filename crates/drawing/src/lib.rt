@@ -1,6 +1,6 @@
 // The desk: what is known of the plan while lines come. What each function means stands in specs/Desk.antt.
 ghost use mathlib.Core.Path.{_≡_};
-ghost use Rattle.drawing.specs.Desk.{capped, noPlan, emptyDesk, districtsHere, jobHere, withDistricts, withJob, fixedDesk};
+ghost use Rattle.drawing.specs.Desk.{capped, emptyDesk, districtsHere, jobHere, withDistricts, withJob, fixedDesk};
 use plans::Plan;
 
 // the plan so far; whether its `districts` line has come, and whether an order has

@@ -1,7 +1,7 @@
 -- Section 1 of a record: kind, from, to, job, a byte each.
 use Prim.Native.Nat.{ℕ, _-_}
 use mathlib.Core.List.{List}
-use mathlib.Core.Path.{_≡_, refl, ap, _∙_}
+use mathlib.Core.Path.{_≡_, ap, _∙_}
 use lib.ListN.{length, take, drop, getD}
 use lib.Seq.{getD-drop}
 use Rattle.laws.specs.Tray.{rest-of}

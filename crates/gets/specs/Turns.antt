@@ -1,7 +1,7 @@
 -- One turn of a section's reader, for any codec: the array filled by one element more.
 use Prim.Native.Nat.{ℕ, _+_, _-_, _*_, _<_}
-use mathlib.Core.List.{List, [], _∷_, _++_}
-use mathlib.Core.Path.{_≡_, refl, sym, ap, _∙_}
+use mathlib.Core.List.{List, _++_}
+use mathlib.Core.Path.{_≡_, _∙_}
 use lib.ListN.{length, take, drop, set, replicate}
 use Rattle.laws.specs.Codec.{Codec, decRow, read-step, row-read-length, fill-step}
 use Rattle.laws.specs.Tray.{rest-of}

@@ -2,7 +2,7 @@
 // and, for section 1, in specs/Head.antt.
 ghost use mathlib.Core.Path.{_≡_};
 ghost use mathlib.Core.List.{_++_};
-ghost use Prim.Native.Nat.{ℕ, _+_, _*_, _-_, _≤_};
+ghost use Prim.Native.Nat.{_+_, _*_, _-_, _≤_};
 ghost use lib.ListN.{length, replicate};
 ghost use Rattle.laws.specs.Codec.{decRow};
 ghost use Rattle.house.specs.Pairs.{noStamp, noBallot, noRow};

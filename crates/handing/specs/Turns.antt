@@ -1,21 +1,19 @@
 -- What one turn adds, that nothing more happens once no job is ready, and that each turn's bytes fit into the whole.
-use Prim.Native.Nat.{ℕ, zero, suc, _+_, _-_, _≤_, _<_}
-use mathlib.Core.Bool.{Bool, true, false}
-use mathlib.Core.List.{List, [], _∷_, _++_, append-nil}
+use Prim.Native.Nat.{ℕ, zero, suc, _+_, _-_, _≤_}
+use mathlib.Core.List.{List, [], _++_}
 use mathlib.Core.Path.{_≡_, refl, sym, ap, _∙_}
-use native.Mathlib.Numerals.{add-one}
 use native.Mathlib.Omega.{arith}
 use lib.Dec.{eqb}
 use lib.ListN.{length, length-append}
 use borrow.Author.Tests.{eq-eqb, ne-eqb}
-use Rattle.laws.specs.Choice.{pick, pick-true, pick-false, pick-both}
-use Rattle.laws.specs.Fold.{upto, upto-step}
+use Rattle.laws.specs.Choice.{pick-true, pick-false, pick-both}
+use Rattle.laws.specs.Fold.{upto-step}
 use Rattle.laws.specs.Place.{Begins, begins-refl, begins-append, begins-trans}
 use Rattle.house.specs.Limits.{noJob}
 use Rattle.plans.specs.declared.Plan.{Plan}
 use Rattle.records.specs.Rec.{Rec}
 use Rattle.records.specs.Bytes.{encodeAll}
-use Rattle.boxes.specs.Ready.{Handing, nextReady, delivers, flagged, handNext, handTurns, handOut}
+use Rattle.boxes.specs.Ready.{Handing, nextReady, delivers, flagged, handNext, handTurns}
 use Rattle.boxes.specs.declared.BoxState.{BoxState}
 use Rattle.sends.specs.Sends.{encode-append}
 

@@ -1,7 +1,7 @@
 // Handing out: ready jobs go out one by one, by global stamp, each flagged. What it means stands in specs/Ready.antt of boxes.
 ghost use mathlib.Core.Path.{_≡_};
 ghost use mathlib.Core.Bool.{true};
-ghost use Prim.Native.Nat.{ℕ, _≤_, _<_, _*_};
+ghost use Prim.Native.Nat.{_≤_};
 ghost use lib.ListN.{length};
 ghost use Rattle.laws.specs.Tray.{onto};
 ghost use Rattle.plans.specs.Plan.{planSound};

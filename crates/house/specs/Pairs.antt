@@ -1,6 +1,6 @@
 -- Stamps and ballots: 'none', the order by first part and then second, the larger of two, real or not.
 use Prim.Native.Nat.{ℕ}
-use mathlib.Core.Bool.{Bool, _&&_, _||_}
+use mathlib.Core.Bool.{Bool, _&&_}
 use mathlib.Core.List.{List}
 use lib.Dec.{leb, eqb}
 use Rattle.laws.specs.Lex.{lexLt, lexEq, larger, largest}

@@ -1,7 +1,7 @@
 // Kinds 1 to 4 as steps of a box: the answer, the new box, and its records in the tray. The definitions stand in specs/Multicast.antt of boxes.
 ghost use mathlib.Core.Path.{_≡_};
 ghost use mathlib.Core.Bool.{true, false};
-ghost use Prim.Native.Nat.{ℕ, _≤_, _<_};
+ghost use Prim.Native.Nat.{_≤_, _<_};
 ghost use lib.ListN.{length};
 ghost use Rattle.laws.specs.Tray.{onto};
 ghost use Rattle.house.specs.Limits.{mostTime};

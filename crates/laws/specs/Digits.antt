@@ -2,17 +2,16 @@
 use Prim.Native.Nat.{ℕ, zero, suc, _+_, _-_, _*_, _/_, _%_, _^_, _≤_, _<_, max}
 use mathlib.Core.Bool.{Bool, true, false}
 use mathlib.Core.List.{List, [], _∷_}
-use mathlib.Core.Logic.{_⊎_, inl, inr, _≢_}
+use mathlib.Core.Logic.{_≢_}
 use mathlib.Core.Path.{_≡_, refl, sym, ap, _∙_}
 use native.Mathlib.Nat.{div-eq-of-lt, div-one, div-div-eq-div-mul, lt-of-lt-of-le, pow-suc, pow-zero, mul-comm, mod-eq-of-lt, zero-mod, zero-div, one-mul, mod-lt}
-use native.Mathlib.Numerals.{add-one}
 use native.Mathlib.Omega.{arith}
 use lib.ListN.{length, getD}
 use lib.Dec.{eqb, lit<}
 use lib.Pow.{pow-mono, pow-pos, pow-lt, shr-shr, field, mod-mod-pow}
-use lib.Bits.{bitOr, or-step, or-shr, or-zero-l, or-zero-r}
+use lib.Bits.{bitOr, or-step, or-shr, or-zero-r}
 use lib.Count.{ones, ones-step}
-use borrow.Author.Tests.{eq-eqb, ne-eqb, eqb-true}
+use borrow.Author.Tests.{eq-eqb}
 use Rattle.laws.specs.Majority.{count, flag}
 
 -- digit i of n is set

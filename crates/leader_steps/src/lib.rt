@@ -1,7 +1,7 @@
 // Kinds 5 to 8 as steps of a box: the answer, the new box, and its records in the tray. The definitions stand in specs/Leaders.antt of boxes.
 ghost use mathlib.Core.Path.{_≡_};
 ghost use mathlib.Core.Bool.{true};
-ghost use Prim.Native.Nat.{ℕ, _≤_};
+ghost use Prim.Native.Nat.{_≤_};
 ghost use lib.ListN.{length};
 ghost use Rattle.laws.specs.Tray.{onto};
 ghost use Rattle.plans.specs.Plan.{planSound};

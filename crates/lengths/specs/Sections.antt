@@ -1,13 +1,12 @@
 -- One section for any codec: how long it is, what is read from it, and that what was read is written again.
-use Prim.Native.Nat.{ℕ, zero, suc, _+_, _-_, _*_, _<_, _≤_}
-use mathlib.Core.List.{List, [], _∷_, _++_, append-nil}
-use mathlib.Core.Path.{_≡_, refl, sym, ap, _∙_}
-use native.Mathlib.Nat.{add-comm}
+use Prim.Native.Nat.{ℕ, suc, _+_, _-_, _*_, _<_, _≤_}
+use mathlib.Core.List.{List, [], _∷_, _++_}
+use mathlib.Core.Path.{_≡_, sym, ap, _∙_}
 use native.Mathlib.Numerals.{add-one}
 use native.Mathlib.Omega.{arith}
-use lib.ListN.{length, take, drop, getD, replicate, length-take, length-drop, length-append, length-replicate, take-append-drop}
-use lib.Seq.{length-take-le, take-add, drop-cons, getD-drop, getD-take, take-at, ext-getD}
-use Rattle.laws.specs.Codec.{Codec, encRow, decRow, AllFit, no-more, one-more, row-length, dec-row, enc-row, row-read-length, bytes-drop}
+use lib.ListN.{length, take, drop, getD, length-take, length-drop}
+use lib.Seq.{length-take-le, drop-cons, getD-take}
+use Rattle.laws.specs.Codec.{Codec, encRow, decRow, AllFit, no-more, one-more, row-length, dec-row, enc-row, bytes-drop}
 use Rattle.laws.specs.Number.{Bytes}
 use Rattle.records.specs.Bytes.{section}
 

@@ -1,6 +1,6 @@
 -- Marks: a set of boxes as one number, box p at digit p. A quorum is counted by the ones among a district's digits.
 use Prim.Native.Nat.{ℕ, _*_, _^_}
-use mathlib.Core.Bool.{Bool, not, _&&_, _||_}
+use mathlib.Core.Bool.{Bool, not, _||_}
 use lib.Count.{ones}
 use lib.Dec.{leb, ltb}
 use Rattle.laws.specs.Choice.{pick}

@@ -1,22 +1,20 @@
 -- Laws of marks, and that two quorums of one district meet: for any size and its smallest majority.
-use Prim.Native.Nat.{ℕ, zero, suc, _+_, _-_, _*_, _/_, _%_, _^_, _≤_, _<_}
-use mathlib.Core.Bool.{Bool, true, false, not, _&&_, _||_}
-use mathlib.Core.Logic.{_⊎_, inl, inr, _≢_}
-use mathlib.Core.Path.{_≡_, refl, sym, ap, _∙_}
-use native.Mathlib.Nat.{mod-lt}
+use Prim.Native.Nat.{ℕ, _+_, _-_, _*_, _≤_, _<_}
+use mathlib.Core.Bool.{true, false, not, _||_}
+use mathlib.Core.Logic.{_≢_}
+use mathlib.Core.Path.{_≡_, sym, _∙_}
 use native.Mathlib.Omega.{arith}
 use lib.Count.{ones}
-use lib.Dec.{leb, ltb}
-use lib.Pow.{pow-pos}
+use lib.Dec.{leb}
 use borrow.Author.Tests.{leb-true, lt-ltb}
 use Rattle.laws.specs.Choice.{pick-true, or-other, not-of}
-use Rattle.laws.specs.Fold.{all-says, all-is}
-use Rattle.laws.specs.Digits.{digit, part, part-digit, part-low, withDigit, digit-zero, digit-same, digit-other, flags, flags-length, flags-at, flags-ones}
+use Rattle.laws.specs.Fold.{all-says}
+use Rattle.laws.specs.Digits.{part, part-digit, part-low, withDigit, digit-zero, digit-same, digit-other, flags, flags-length, flags-at, flags-ones}
 use Rattle.laws.specs.Majority.{majority, Shared, majorities-meet}
 use Rattle.house.specs.Pairs.{district, boxNo}
 use Rattle.house.specs.declared.District.{District}
 use Rattle.house.specs.declared.BoxNo.{BoxNo}
-use Rattle.plans.specs.Plan.{sizeOf, quorumOf, boxesOf, homeOf, names}
+use Rattle.plans.specs.Plan.{sizeOf, quorumOf, homeOf, names}
 use Rattle.plans.specs.Says.{home-is}
 use Rattle.plans.specs.declared.Plan.{Plan}
 use Rattle.marks.specs.Marks.{noMarks, mostMarks, hasMark, marked, marksIn, quorumIn, quorumBelow, quorumEach}

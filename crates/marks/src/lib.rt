@@ -1,7 +1,6 @@
 // Marks of boxes and quorums of them. What each function means stands in specs/Marks.antt.
 ghost use mathlib.Core.Path.{_≡_};
-ghost use Prim.Native.Nat.{ℕ, _≤_};
-ghost use Rattle.marks.specs.Marks.{noMarks, hasMark, marked, marksIn, onlyBoxes, quorumIn, quorumBelow, quorumEach};
+ghost use Rattle.marks.specs.Marks.{noMarks, hasMark, marked, marksIn, onlyBoxes, quorumIn, quorumEach};
 use house::BoxNo;
 use house::District;
 use plans::Plan;

@@ -1,25 +1,24 @@
 -- What the plan's tests say: a sound plan's ranges, where a box lives, which jobs name a district.
-use Prim.Native.Nat.{ℕ, zero, suc, _+_, _*_, _/_, _^_, _<_, _≤_}
-use mathlib.Core.Bool.{Bool, true, false, _&&_, _||_}
+use Prim.Native.Nat.{ℕ, _+_, _*_, _^_, _<_, _≤_}
+use mathlib.Core.Bool.{true, false, _&&_}
 use mathlib.Core.Logic.{_⊎_, inl, inr}
-use mathlib.Core.Path.{_≡_, refl, sym, ap, _∙_}
+use mathlib.Core.Path.{_≡_, ap}
 use native.Mathlib.Nat.{div-lt-iff-lt-mul, div-eq-of-lt-le, div-mul-le-self, lt-div-mul-add, mul-le-mul-right, add-mul, one-mul}
 use native.Mathlib.Omega.{arith}
 use lib.ListN.{getD}
 use lib.Dec.{leb, ltb, eqb}
-use lib.Pow.{pow-mono}
 use borrow.Author.Tests.{leb-true, ltb-true, ltb-false, eqb-true, lt-ltb, le-ltb, eq-eqb}
-use Rattle.laws.specs.Choice.{pick, pick-cases, pick-true, pick-false, look, never, and-left, and-right, and-both, or-cases}
-use Rattle.laws.specs.Fold.{allBelow, all-says}
+use Rattle.laws.specs.Choice.{pick-true, pick-false, look, never, and-left, and-right, and-both, or-cases}
+use Rattle.laws.specs.Fold.{all-says}
 use Rattle.laws.specs.Digits.{digit, digit-zero, digit-beyond}
-use Rattle.house.specs.Limits.{mostDistricts, mostJobs, mostTime}
+use Rattle.house.specs.Limits.{mostDistricts, mostJobs}
 use Rattle.house.specs.Pairs.{district, boxNo, noBallot, isNoBallot, realStamp, realBallot}
 use Rattle.house.specs.Orders.{RealStamp, real-stamp-says, real-stamp-is, RealBallot, real-ballot-says, real-ballot-is, no-ballot-says}
 use Rattle.house.specs.declared.District.{District}
 use Rattle.house.specs.declared.BoxNo.{BoxNo}
 use Rattle.house.specs.declared.Ballot.{Ballot}
 use Rattle.house.specs.declared.Stamp.{Stamp}
-use Rattle.plans.specs.Plan.{sizeOf, boxesOf, officeOf, homeOf, isBox, isOffice, isJob, isDistrict, sameHome, maskOf, names, ballotIn, noneOrIn, stampNamed, maskSound, countsSound, masksSound, planSound}
+use Rattle.plans.specs.Plan.{sizeOf, boxesOf, homeOf, isBox, isOffice, isJob, sameHome, maskOf, names, ballotIn, noneOrIn, stampNamed, maskSound, countsSound, masksSound, planSound}
 use Rattle.plans.specs.declared.Plan.{Plan}
 
 pub size-real : (P : Plan) → 1 ≤ sizeOf P

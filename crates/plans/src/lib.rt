@@ -1,7 +1,7 @@
 // The plan of a night. What each function means stands in specs/Plan.antt.
 ghost use mathlib.Core.Path.{_≡_};
 ghost use mathlib.Core.Bool.{true};
-ghost use Prim.Native.Nat.{ℕ, _+_, _*_, _<_, _≤_};
+ghost use Prim.Native.Nat.{_+_, _*_, _<_, _≤_};
 ghost use Rattle.plans.specs.Plan.{sizeOf, quorumOf, boxesOf, officeOf, homeOf, isBox, isOffice, isJob, sameHome, maskOf, names, ballotIn, noneOrIn, stampNamed, planSound};
 use house::Ballot;
 use house::BoxNo;

@@ -1,13 +1,13 @@
 // The post's bytes: its room, where records begin, and writing behind the last. The definitions stand in specs/Posting.antt.
 ghost use mathlib.Core.Path.{_≡_};
 ghost use mathlib.Core.List.{_++_};
-ghost use Prim.Native.Nat.{ℕ, _+_, _*_, _≤_, _<_};
+ghost use Prim.Native.Nat.{_+_, _*_, _≤_, _<_};
 ghost use lib.ListN.{length, getD, take, drop};
 ghost use lib.Dec.{leb, ltb};
 ghost use Rattle.laws.specs.Tray.{onto};
 ghost use Rattle.laws.specs.Choice.{pick};
 ghost use Rattle.records.specs.Bytes.{lengthOf};
-ghost use Rattle.posting.specs.Posting.{roomOf, nextStart, startOf, toBox};
+ghost use Rattle.posting.specs.Posting.{roomOf, nextStart, startOf};
 use plans::Plan;
 
 pub fn room_of(post: &[u8]) -> usize

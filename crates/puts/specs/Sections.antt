@@ -1,6 +1,6 @@
 -- A section that is written element by element: its count first, and one turn of its writer, for any codec.
 use Prim.Native.Nat.{ℕ, _+_, _-_, _*_, _<_, _≤_}
-use mathlib.Core.List.{List, [], _∷_, _++_}
+use mathlib.Core.List.{List, [], _∷_}
 use mathlib.Core.Path.{_≡_, refl, sym, ap, _∙_}
 use native.Mathlib.Nat.{add-mul, one-mul}
 use native.Mathlib.Omega.{arith}

@@ -1,6 +1,6 @@
 // Writers of a record's parts: a ballot, a stamp, a row, and each section behind its count. The bytes stand in records/specs/Bytes.antt.
 ghost use mathlib.Core.Path.{_≡_};
-ghost use Prim.Native.Nat.{ℕ, _+_, _*_, _≤_};
+ghost use Prim.Native.Nat.{_+_, _*_, _≤_};
 ghost use lib.ListN.{length, take};
 ghost use Rattle.laws.specs.Codec.{encRow};
 ghost use Rattle.laws.specs.Tray.{onto};

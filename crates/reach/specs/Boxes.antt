@@ -14,7 +14,7 @@ use Rattle.house.specs.declared.BoxNo.{BoxNo}
 use Rattle.plans.specs.Plan.{boxesOf, sizeOf, isBox, planSound}
 use Rattle.plans.specs.Says.{plan-says, box-says}
 use Rattle.plans.specs.declared.Plan.{Plan}
-use Rattle.records.specs.Rec.{Rec, multicast, accept, accept-ack, deliver, newleader, newleader-ack, new-state, newstate-ack, unknown, senderOf, addresseeOf, carried}
+use Rattle.records.specs.Rec.{Rec, multicast, accept, accept-ack, deliver, newleader, newleader-ack, new-state, newstate-ack, unknown, addresseeOf, carried}
 use Rattle.boxes.specs.Box.{fresh}
 use Rattle.world.specs.World.{freshBoxes}
 use Rattle.keeps.specs.Obeys.{Obeys}

@@ -1,8 +1,7 @@
 // The record reader. What it reads stands in records/specs/Bytes.antt, its answers in records/specs/Outcome.antt.
 ghost use mathlib.Core.Path.{_≡_};
 ghost use mathlib.Core.Bool.{true};
-ghost use Prim.Native.Nat.{ℕ, _≤_};
-ghost use lib.ListN.{length};
+ghost use Prim.Native.Nat.{_≤_};
 ghost use Rattle.plans.specs.Plan.{planSound};
 ghost use Rattle.records.specs.Rec.{noRecord};
 ghost use Rattle.records.specs.Bytes.{stampsAt, rowsAt, lengthOf, shaped, parse};

@@ -4,7 +4,7 @@ use mathlib.Core.Bool.{Bool, _&&_}
 use mathlib.Core.List.{List, [], _∷_, _++_}
 use lib.ListN.{length, take, drop, getD, replicate}
 use lib.Dec.{leb, eqb}
-use Rattle.laws.specs.Codec.{Codec, encRow, decRow}
+use Rattle.laws.specs.Codec.{encRow, decRow}
 use Rattle.house.specs.Limits.{mostDistricts, mostJobs}
 use Rattle.house.specs.Pairs.{boxNo, noStamp, noBallot, noRow}
 use Rattle.plans.specs.declared.Plan.{Plan}

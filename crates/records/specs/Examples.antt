@@ -1,6 +1,6 @@
 -- Records of a plan with two districts: some that obey the rules, some that break one each, bytes that are no record, and the bytes of two.
 use Prim.Native.Nat.{ℕ}
-use mathlib.Core.Bool.{Bool, true, false}
+use mathlib.Core.Bool.{true, false}
 use mathlib.Core.List.{List, [], _∷_, map}
 use mathlib.Core.Path.{_≡_, refl}
 use lib.ListN.{replicate}
@@ -16,7 +16,6 @@ use Rattle.records.specs.Fields.{ballots, stamps, rows}
 use Rattle.records.specs.Rec.{Rec, multicast, accept, accept-ack, deliver, newleader, newleader-ack, new-state, newstate-ack, carried}
 use Rattle.records.specs.Rules.{clockOf, bothStamps, startRow, openRow, doneRow, rowSound, rowsSound, noneProposed, ballotFor, ballotsFor, boxes, neighbours, others, rules, spare}
 use Rattle.records.specs.Bytes.{headBytes, ballotBytes, stampBytes, rowBytes, encode, stampsAt, rowsAt, lengthOf, shaped}
-use Rattle.records.specs.declared.Record.{Record}
 
 -- job 0 names both districts, job 1 names district 0
 abbrev pub twoDistricts : Plan

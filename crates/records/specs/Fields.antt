@@ -1,10 +1,10 @@
 -- Ballots in 3 bytes, the box last; stamps in 5, the district last; rows in 11: phase, local, global.
-use Prim.Native.Nat.{ℕ, _+_, _*_, _^_, _<_, _≤_}
-use mathlib.Core.List.{List, [], _∷_, _++_, append-assoc}
+use Prim.Native.Nat.{ℕ, _+_, _^_, _<_, _≤_}
+use mathlib.Core.List.{List, _∷_, _++_}
 use mathlib.Core.Path.{_≡_, refl, sym, _∙_, ap, ap₂}
 use native.Mathlib.Omega.{arith}
-use lib.ListN.{length, take, drop, getD, length-append, length-drop}
-use lib.Seq.{take-suc, take-add, drop-at}
+use lib.ListN.{length, take, drop, getD, length-drop}
+use lib.Seq.{take-suc, take-add}
 use Rattle.laws.specs.Codec.{Codec, pairBytes, pair-length, pair-number, pair-byte, pair-again, bytes-drop}
 use Rattle.laws.specs.Number.{number, Bytes}
 use Rattle.house.specs.Pairs.{stamp, ballot}

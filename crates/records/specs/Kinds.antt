@@ -1,11 +1,9 @@
 -- What a struct of each kind says: the cases of `meaning`, one law a kind.
-use Prim.Native.Nat.{ℕ}
 use mathlib.Core.Logic.{_≢_}
 use mathlib.Core.Path.{_≡_}
-use lib.Dec.{eqb}
 use borrow.Author.Tests.{ne-eqb}
 use Rattle.laws.specs.Choice.{pick}
-use Rattle.records.specs.Rec.{Rec, multicast, accept, accept-ack, deliver, newleader, newleader-ack, new-state, newstate-ack, unknown, meaning, ballotNo, stampNo}
+use Rattle.records.specs.Rec.{multicast, accept, accept-ack, deliver, newleader, newleader-ack, new-state, newstate-ack, unknown, meaning, ballotNo, stampNo}
 use Rattle.records.specs.declared.Record.{Record}
 
 module _ (r : Record) where

@@ -1,13 +1,13 @@
 -- Rules of the format's table, each one computed test over all kinds; and how long a record can be.
-use Prim.Native.Nat.{ℕ, _+_, _*_, _<_, _≤_}
-use mathlib.Core.Bool.{Bool, true, false, _||_}
+use Prim.Native.Nat.{ℕ, _+_, _*_, _≤_}
+use mathlib.Core.Bool.{Bool, true, false}
 use mathlib.Core.Logic.{_⊎_, inl, inr}
-use mathlib.Core.Path.{_≡_, refl, sym, ap, _∙_}
+use mathlib.Core.Path.{_≡_, refl}
 use native.Mathlib.Omega.{arith}
-use lib.ListN.{length, getD, List·getD-eq-default}
+use lib.ListN.{List·getD-eq-default}
 use lib.Dec.{leb, ltb, eqb}
 use borrow.Author.Tests.{leb-true, ltb-true, ltb-false}
-use Rattle.laws.specs.Choice.{pick, pick-when, or-other, look}
+use Rattle.laws.specs.Choice.{pick, look}
 use Rattle.laws.specs.Fold.{allBelow, all-says}
 use Rattle.house.specs.Limits.{mostDistricts, mostJobs}
 use Rattle.plans.specs.Plan.{planSound}

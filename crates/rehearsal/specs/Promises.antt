@@ -6,7 +6,6 @@ use mathlib.Core.Path.{_≡_, refl, sym, ap, _∙_}
 use lib.ListN.{length}
 use Rattle.plans.specs.declared.Plan.{Plan}
 use Rattle.records.specs.Answers.{Answered, one-answer}
-use Rattle.records.specs.declared.Answer.{Answer}
 use Rattle.boxes.specs.Out.{Out, refused, does, recordsOf}
 use Rattle.boxes.specs.Promise.{wasDone, numberOf}
 use Rattle.rehearsal.specs.Night.{whose, given, turnOf, postOf, freshNight}

@@ -1,7 +1,7 @@
 // The rehearsal: all boxes of a plan and the post, one order at a time. What it means stands in specs/Night.antt, its promises in
 // specs/Promises.antt.
 ghost use mathlib.Core.Path.{_≡_};
-ghost use Prim.Native.Nat.{ℕ, _+_, _≤_, _<_};
+ghost use Prim.Native.Nat.{_+_, _≤_, _<_};
 ghost use lib.ListN.{length, set, take};
 ghost use Rattle.records.specs.Bytes.{encodeAll};
 ghost use Rattle.boxes.specs.Out.{Out, resultOf, recordsOf};

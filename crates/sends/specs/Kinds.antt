@@ -1,24 +1,21 @@
 -- The records of each step, as the bytes that one struct sent to each meant box writes.
-use Prim.Native.Nat.{ℕ, zero, suc, _<_, _≤_}
-use mathlib.Core.Bool.{Bool, true, false, not, _&&_, _||_}
-use mathlib.Core.List.{List, [], _∷_, _++_}
+use Prim.Native.Nat.{ℕ, zero, suc, _<_}
+use mathlib.Core.Bool.{Bool, true, false, not, _&&_}
 use mathlib.Core.Logic.{_⊎_, inl, inr}
-use mathlib.Core.Path.{_≡_, refl, sym, ap, _∙_}
+use mathlib.Core.Path.{_≡_, refl, sym}
 use native.Mathlib.Omega.{arith}
-use lib.ListN.{length, getD}
-use lib.Dec.{leb, eqb}
-use Rattle.laws.specs.Choice.{pick, pick-true, pick-false, look, never}
-use Rattle.laws.specs.Tray.{allFor}
-use Rattle.house.specs.Pairs.{district, boxNo, noBallot}
+use lib.ListN.{getD}
+use lib.Dec.{eqb}
+use Rattle.laws.specs.Choice.{pick, pick-true, look}
+use Rattle.house.specs.Pairs.{boxNo, noBallot}
 use Rattle.house.specs.declared.Ballot.{Ballot}
 use Rattle.house.specs.declared.BoxNo.{BoxNo}
-use Rattle.plans.specs.Plan.{boxesOf, homeOf, sameHome, names, officeOf, planSound}
+use Rattle.plans.specs.Plan.{boxesOf, homeOf, sameHome, names, planSound}
 use Rattle.plans.specs.Says.{home-low, plan-says}
 use Rattle.plans.specs.declared.Plan.{Plan}
-use Rattle.records.specs.Rec.{Rec, Proposal, Handout, NewState, multicast, accept, accept-ack, deliver, newleader, new-state, carried}
-use Rattle.records.specs.Bytes.{encode, encodeAll}
-use Rattle.boxes.specs.Box.{ownOf, homeIn, rowAt, keptBallot}
-use Rattle.boxes.specs.Out.{toEach, toNamed, toHome, toOthers}
+use Rattle.records.specs.Rec.{Proposal, Handout, NewState, multicast, accept, accept-ack, deliver, newleader, new-state, carried}
+use Rattle.boxes.specs.Box.{ownOf, keptBallot}
+use Rattle.boxes.specs.Out.{toNamed, toHome, toOthers}
 use Rattle.boxes.specs.Multicast.{keptFor, keptVector, acks}
 use Rattle.boxes.specs.declared.BoxState.{BoxState}
 use Rattle.sends.specs.Sends.{addressed, goesTo, Sends, each-sends}

@@ -1,8 +1,8 @@
 // Whether what survives a cut is sound: ranges, ballots, table, flags and list. The tests stand in specs/Sound.antt of boxes.
 ghost use mathlib.Core.Path.{_≡_};
-ghost use Prim.Native.Nat.{ℕ, _-_, _<_, _≤_};
+ghost use Prim.Native.Nat.{_-_, _<_, _≤_};
 ghost use Rattle.boxes.specs.Sound.{rangeSound, ballotsSound, tableSound, sentSound, listSound};
-ghost use Rattle.sound_cores.specs.Lists.{repeats, entrySound, noEntry, placeSound, placesSound};
+ghost use Rattle.sound_cores.specs.Lists.{repeats, entrySound, placeSound};
 use boxes::BoxState;
 use boxes::Listed;
 use house::BoxNo;

@@ -1,6 +1,6 @@
 // Whether a plan is sound. What each function means stands in specs/Plan.antt of the crate plans.
 ghost use mathlib.Core.Path.{_≡_};
-ghost use Prim.Native.Nat.{ℕ, _≤_};
+ghost use Prim.Native.Nat.{_≤_};
 ghost use Rattle.plans.specs.Plan.{maskSound, countsSound, masksSound, planSound};
 use plans::Plan;
 

@@ -1,13 +1,12 @@
 -- Kept ACCEPTs, marks and the vote, over the arrays and numbers alone.
 use Prim.Native.Nat.{ℕ}
-use mathlib.Core.Bool.{Bool, not, _&&_, _||_}
-use mathlib.Core.List.{List, [], _∷_}
-use mathlib.Core.Path.{_≡_, refl, _∙_}
+use mathlib.Core.Bool.{Bool, _&&_, _||_}
+use mathlib.Core.List.{List}
+use mathlib.Core.Path.{_≡_, refl}
 use lib.ListN.{getD}
-use lib.Dec.{ltb, eqb}
-use Rattle.laws.specs.Choice.{pick}
+use lib.Dec.{eqb}
 use Rattle.laws.specs.Fold.{allBelow}
-use Rattle.house.specs.Limits.{mostDistricts, mostJobs, noJob}
+use Rattle.house.specs.Limits.{mostDistricts, mostJobs}
 use Rattle.house.specs.Pairs.{district, noBallot, noStamp, isNoBallot, isNoStamp, stampOf}
 use Rattle.house.specs.declared.District.{District}
 use Rattle.house.specs.declared.Ballot.{Ballot}

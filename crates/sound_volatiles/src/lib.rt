@@ -1,9 +1,9 @@
 // Whether what a cut forgets is sound: kept ACCEPTs, marks and the vote. The tests stand in specs/Sound.antt of boxes.
 ghost use mathlib.Core.Path.{_≡_};
-ghost use Prim.Native.Nat.{ℕ, _<_, _≤_};
+ghost use Prim.Native.Nat.{_<_};
 ghost use Rattle.records.specs.Rec.{newleader-ack, carried};
-ghost use Rattle.boxes.specs.Sound.{paperOf, allKeptSound, allMarksSound, heldSound, unvoted, voteSound};
-ghost use Rattle.sound_volatiles.specs.Pairs.{pairSound, pairsBelow, pairsSound, unnamedBelow, jobMarksSound, marksBelow};
+ghost use Rattle.boxes.specs.Sound.{paperOf, allKeptSound, allMarksSound, unvoted, voteSound};
+ghost use Rattle.sound_volatiles.specs.Pairs.{pairSound, pairsBelow, unnamedBelow, jobMarksSound};
 use boxes::BoxState;
 use boxes::Vote;
 use house::Ballot;

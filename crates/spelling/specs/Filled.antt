@@ -1,9 +1,9 @@
 -- Places behind a section's count that are none: an array is its front, filled up with none.
-use Prim.Native.Nat.{ℕ, _+_, _-_, _<_, _≤_}
+use Prim.Native.Nat.{ℕ, _+_, _-_, _<_}
 use mathlib.Core.Bool.{Bool, true, false, _&&_, _||_}
 use mathlib.Core.List.{List, _++_}
 use mathlib.Core.Logic.{_⊎_, inl, inr}
-use mathlib.Core.Path.{_≡_, refl, sym, ap, _∙_}
+use mathlib.Core.Path.{_≡_, sym, ap, _∙_}
 use native.Mathlib.Omega.{arith}
 use lib.ListN.{length, take, drop, getD, replicate, length-drop, length-replicate, getD-replicate, take-append-drop}
 use lib.Dec.{ltb, eqb}
@@ -11,7 +11,7 @@ use lib.Seq.{ext-getD, getD-drop, getD-append-add}
 use borrow.Author.Tests.{le-ltb, ltb-false, eqb-true}
 use Rattle.laws.specs.Choice.{look, and-left, and-right, or-left, or-right, or-other}
 use Rattle.laws.specs.Fold.{allBelow, all-says, all-is}
-use Rattle.house.specs.Pairs.{noStamp, noRow, isNoStamp}
+use Rattle.house.specs.Pairs.{noRow, isNoStamp}
 use Rattle.house.specs.Orders.{no-stamp-says}
 use Rattle.house.specs.declared.Row.{Row}
 use Rattle.records.specs.Rules.{startRow, isNoRow}

@@ -1,30 +1,30 @@
 -- Every number of a record that obeys the rules fits its bytes.
-use Prim.Native.Nat.{ℕ, zero, suc, _+_, _^_, _<_, _≤_}
-use mathlib.Core.Bool.{Bool, true, false, not, _&&_, _||_}
+use Prim.Native.Nat.{ℕ, zero, suc, _^_, _<_}
+use mathlib.Core.Bool.{true, not, _&&_, _||_}
 use mathlib.Core.List.{List}
-use mathlib.Core.Logic.{_⊎_, inl, inr, ⊎-elim}
-use mathlib.Core.Path.{_≡_, refl, sym, ap, _∙_}
+use mathlib.Core.Logic.{_⊎_, ⊎-elim}
+use mathlib.Core.Path.{_≡_, refl}
 use native.Mathlib.Omega.{arith}
 use lib.ListN.{getD}
 use lib.Dec.{leb, eqb}
 use borrow.Author.Tests.{leb-true}
-use Rattle.laws.specs.Choice.{pick, pick-cases, pick-when, look, and-left, and-right, or-cases}
-use Rattle.laws.specs.Fold.{allBelow, all-says}
+use Rattle.laws.specs.Choice.{pick, pick-cases, and-left, and-right, or-cases}
+use Rattle.laws.specs.Fold.{all-says}
 use Rattle.house.specs.Limits.{mostTime}
-use Rattle.house.specs.Pairs.{district, noStamp, noBallot, noRow, stampLt, ballotLt, isNoStamp, isNoBallot, timeFits, realStamp, realBallot, stampOf, ballotOf}
-use Rattle.house.specs.Orders.{no-stamp-says, no-ballot-says, real-stamp-says, stamp-of-says, ballot-of-says}
+use Rattle.house.specs.Pairs.{district, noBallot, noRow, stampLt, ballotLt, isNoStamp, isNoBallot, timeFits, stampOf, ballotOf}
+use Rattle.house.specs.Orders.{no-stamp-says, no-ballot-says, stamp-of-says, ballot-of-says}
 use Rattle.house.specs.declared.Stamp.{Stamp}
 use Rattle.house.specs.declared.Ballot.{Ballot}
 use Rattle.house.specs.declared.BoxNo.{BoxNo}
 use Rattle.house.specs.declared.District.{District}
 use Rattle.house.specs.declared.Row.{Row}
-use Rattle.plans.specs.Plan.{isBox, isJob, homeOf, names, ballotIn, noneOrIn, stampNamed}
-use Rattle.plans.specs.Says.{ballot-in-says, none-or-in-says, stamp-named-says}
+use Rattle.plans.specs.Plan.{isJob, homeOf, names, ballotIn, noneOrIn, stampNamed}
+use Rattle.plans.specs.Says.{ballot-in-says, stamp-named-says}
 use Rattle.plans.specs.declared.Plan.{Plan}
 use Rattle.records.specs.Format.{known, mostKind, entry, orPlan, ballotsIn, stampsIn, rowsIn}
 use Rattle.records.specs.Rec.{meaning, ballotNo, stampNo}
-use Rattle.records.specs.Rules.{clockOf, bothStamps, startRow, openRow, doneRow, rowSound, rowsSound, noneProposed, ballotFor, ballotsFor, boxes, neighbours, others, rules, spare, valid}
-use Rattle.records.specs.Kinds.{says-multicast, says-accept, says-accept-ack, says-deliver, says-newleader, says-newleader-ack, says-new-state, says-newstate-ack}
+use Rattle.records.specs.Rules.{clockOf, bothStamps, startRow, openRow, doneRow, rowSound, rowsSound, noneProposed, ballotFor, ballotsFor, boxes, neighbours, others, rules}
+use Rattle.records.specs.Kinds.{says-accept, says-accept-ack, says-deliver, says-newleader, says-newleader-ack, says-new-state, says-newstate-ack}
 use Rattle.records.specs.declared.Record.{Record}
 
 -- a known kind is one of eight

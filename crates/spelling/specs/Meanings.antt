@@ -1,22 +1,19 @@
 -- A valid struct carries what it says, and nothing else: records as values and their structs are one.
 use Prim.Native.Nat.{ℕ, suc, _-_}
-use mathlib.Core.Bool.{Bool, true, false, _||_}
-use mathlib.Core.List.{List, [], _∷_, _++_}
+use mathlib.Core.Bool.{true, false}
+use mathlib.Core.List.{List, [], _∷_}
 use mathlib.Core.Path.{_≡_, refl, sym, ap, _∙_}
 use native.Mathlib.Omega.{arith}
-use lib.ListN.{length, take, drop, getD, replicate}
+use lib.ListN.{length, drop, getD, replicate}
 use lib.Dec.{eqb}
 use borrow.Author.Tests.{eqb-true}
 use Rattle.laws.specs.Choice.{pick, or-other}
 use Rattle.house.specs.Limits.{mostDistricts, mostJobs, noJob}
 use Rattle.house.specs.Pairs.{noStamp, noBallot, noRow, isNoStamp, isNoBallot}
 use Rattle.house.specs.Orders.{no-stamp-says, no-ballot-says}
-use Rattle.house.specs.declared.Stamp.{Stamp}
-use Rattle.house.specs.declared.Ballot.{Ballot}
-use Rattle.house.specs.declared.Row.{Row}
 use Rattle.plans.specs.declared.Plan.{Plan}
-use Rattle.records.specs.Format.{known, entry, orPlan, ballotsIn, stampsIn, rowsIn, hasJob}
-use Rattle.records.specs.Rec.{Rec, carried, meaning, noBallots, noRows, oneBallot, twoStamps, ballotNo, stampNo}
+use Rattle.records.specs.Format.{entry, orPlan, ballotsIn, stampsIn, rowsIn, hasJob}
+use Rattle.records.specs.Rec.{carried, meaning}
 use Rattle.records.specs.Rules.{isNoRow, spareBallots, spareStamps, spareRows, valid}
 use Rattle.records.specs.Kinds.{says-multicast, says-accept, says-accept-ack, says-deliver, says-newleader, says-newleader-ack, says-new-state, says-newstate-ack}
 use Rattle.records.specs.declared.Record.{Record}

@@ -12,7 +12,7 @@ use Rattle.plans.specs.declared.Plan.{Plan}
 use Rattle.records.specs.Rec.{meaning}
 use Rattle.records.specs.Rules.{valid}
 use Rattle.records.specs.Bytes.{encode, parse}
-use Rattle.records.specs.Outcome.{writeAnswer, writeBytes, writes, readAnswer, readRecord, reads, write-says, write-is, read-says, read-is}
+use Rattle.records.specs.Outcome.{writeBytes, writes, readRecord, reads, write-says, write-is, read-says, read-is}
 use Rattle.records.specs.declared.Record.{Record}
 use Rattle.records.specs.declared.Answer.the-variants.{Done}
 use Rattle.lengths.specs.Lengths.{Arrays}

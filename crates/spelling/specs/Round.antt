@@ -1,29 +1,25 @@
 -- Reading what was written gives the record back; writing what was read gives the bytes back. For any kind at once.
-use Prim.Native.Nat.{ℕ, _+_, _-_, _*_, _<_, _≤_}
+use Prim.Native.Nat.{ℕ, _+_, _-_, _*_, _≤_}
 use mathlib.Core.Bool.{Bool, true, false, _&&_, _||_}
 use mathlib.Core.List.{List, [], _∷_, _++_, append-assoc, append-nil}
 use mathlib.Core.Path.{_≡_, refl, sym, ap, _∙_}
 use native.Mathlib.Omega.{arith}
 use lib.ListN.{length, take, drop, getD, replicate, length-append, length-replicate}
-use lib.Dec.{leb, eqb}
+use lib.Dec.{eqb}
 use lib.Seq.{take-all, take-add, take-at, drop-at, drop-drop, getD-drop}
-use borrow.Author.Tests.{le-leb, eq-eqb}
-use Rattle.laws.specs.Choice.{and-left, and-right, and-both}
-use Rattle.laws.specs.Codec.{Codec, encRow, decRow, AllFit, row-read-length}
+use Rattle.laws.specs.Choice.{and-left, and-right}
+use Rattle.laws.specs.Codec.{encRow, decRow, row-read-length}
 use Rattle.laws.specs.Number.{Bytes}
 use Rattle.house.specs.Limits.{mostDistricts, mostJobs, noJob}
 use Rattle.house.specs.Pairs.{noStamp, noBallot, noRow, sameStamp, sameBallot, isNoStamp, isNoBallot}
 use Rattle.house.specs.Orders.{no-stamp-says, no-ballot-says}
-use Rattle.house.specs.declared.Stamp.{Stamp}
-use Rattle.house.specs.declared.Ballot.{Ballot}
-use Rattle.house.specs.declared.Row.{Row}
 use Rattle.plans.specs.Plan.{planSound}
 use Rattle.plans.specs.declared.Plan.{Plan}
 use Rattle.records.specs.Format.{known, ballotsIn, stampsIn, rowsIn, hasJob}
 use Rattle.records.specs.Fields.{ballots, stamps, rows}
 use Rattle.records.specs.Rec.{meaning}
 use Rattle.records.specs.Rules.{startRow, isNoRow, spareBallots, spareStamps, spareRows, spare, rules, valid}
-use Rattle.records.specs.Bytes.{section, headBytes, ballotBytes, stampBytes, rowBytes, encode, stampsAt, rowsAt, lengthOf, shaped, parse}
+use Rattle.records.specs.Bytes.{headBytes, ballotBytes, stampBytes, rowBytes, encode, stampsAt, rowsAt, lengthOf, shaped, parse}
 use Rattle.records.specs.Table.{ballots-most, stamps-most, rows-most}
 use Rattle.records.specs.declared.Record.{Record}
 use Rattle.lengths.specs.Sections.{section-read, section-again, fit-front}

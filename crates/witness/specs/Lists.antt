@@ -1,6 +1,6 @@
 -- What a session's closing report shows of a world, and a plan as a session names it.
 use Prim.Native.Nat.{ℕ}
-use mathlib.Core.List.{List, [], _∷_, _++_, map}
+use mathlib.Core.List.{List, _++_, map}
 use lib.ListN.{length, replicate, take}
 use Rattle.house.specs.Limits.{mostJobs}
 use Rattle.plans.specs.declared.Plan.{Plan}

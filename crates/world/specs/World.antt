@@ -1,10 +1,9 @@
 -- All boxes of a plan, and all records ever sent by place, under any list of orders. The post has no limit here.
 use Prim.Native.Nat.{ℕ}
-use mathlib.Core.Bool.{Bool, true, false, _&&_}
+use mathlib.Core.Bool.{Bool, _&&_}
 use mathlib.Core.List.{List, [], _∷_, _++_}
 use lib.ListN.{length, getD, set}
 use lib.Dec.{ltb}
-use Rattle.laws.specs.Choice.{pick}
 use Rattle.laws.specs.Fold.{upto}
 use Rattle.house.specs.Limits.{leastTray}
 use Rattle.house.specs.Pairs.{boxNo}

@@ -1,7 +1,7 @@
 // The record writer. Its bytes stand in records/specs/Bytes.antt, its answers in records/specs/Outcome.antt.
 ghost use mathlib.Core.Path.{_≡_};
 ghost use mathlib.Core.Bool.{true};
-ghost use Prim.Native.Nat.{ℕ, _≤_};
+ghost use Prim.Native.Nat.{_≤_};
 ghost use lib.ListN.{length};
 ghost use Rattle.laws.specs.Tray.{onto};
 ghost use Rattle.plans.specs.Plan.{planSound};

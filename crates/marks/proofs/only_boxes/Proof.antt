@@ -7,7 +7,7 @@ use borrow.Author.Tests.{lt-ltb}
 use lib.Pow.{pow-mono}
 use native.Mathlib.Nat.{lt-of-lt-of-le}
 use mathlib.Core.Path.{sym}
-use Prim.Native.Nat.{ℕ, _^_, _<_, _≤_}
+use Prim.Native.Nat.{_^_, _≤_}
 use borrow.Author.Needs.{needs}
 use Rattle.marks.proofs.only_boxes.Statement.{statement}
 use Rattle.marks.proofs.only_boxes.Tie as tie

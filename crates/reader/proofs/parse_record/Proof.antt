@@ -9,7 +9,7 @@ use Rattle.laws.specs.Tray.{rest-of}
 use lib.ListN.{length, getD}
 use Prim.Native.Nat.{_+_, _*_, _≤_}
 use native.Mathlib.Omega.{arith}
-use mathlib.Core.Path.{_≡_, refl, sym, ap, _∙_}
+use mathlib.Core.Path.{_≡_, refl, ap}
 use borrow.Author.Needs.{needs}
 use Rattle.reader.proofs.parse_record.Statement.{statement}
 use Rattle.reader.proofs.parse_record.Tie as tie
