@@ -1,28 +1,22 @@
+-- `gets::read_head` meets its contract.
 use Rattle.gets.specs.Head.{headAt}
 use mathlib.Core.Path.{refl}
 use borrow.Author.Needs.{needs}
 use Rattle.gets.proofs.read_head.Statement.{statement}
 use Rattle.gets.proofs.read_head.Tie as tie
-use Rattle.gets.proofs.read_head.Reads as reads
-use Rattle.gets.proofs.read_head.Lts as lts
 
--- src/lib.rt:31:15
 shared-slice-read-t3 : tie.Need-shared-slice-read-t3
 shared-slice-read-t3 c = search needs
 
--- src/lib.rt:32:21
 shared-slice-read-t5 : tie.Need-shared-slice-read-t5
 shared-slice-read-t5 c = search needs
 
--- src/lib.rt:33:19
 shared-slice-read-t8 : tie.Need-shared-slice-read-t8
 shared-slice-read-t8 c = search needs
 
--- src/lib.rt:34:14
 shared-slice-read-t11 : tie.Need-shared-slice-read-t11
 shared-slice-read-t11 c = search needs
 
--- src/lib.rt:26:1
 returns : tie.Need-returns
 unfolding headAt
 returns c = refl
