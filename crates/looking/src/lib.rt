@@ -29,7 +29,8 @@ pub fn row_at(x: BoxState, job: u8) -> Row
     }
     let c = x.core;
     let j = job as usize;
-    c.table[j]
+    let table = c.table;
+    table[j]
 }
 
 pub fn sent_at(x: BoxState, job: u8) -> bool
@@ -40,7 +41,8 @@ pub fn sent_at(x: BoxState, job: u8) -> bool
     }
     let c = x.core;
     let j = job as usize;
-    c.sent[j]
+    let sent = c.sent;
+    sent[j]
 }
 
 pub fn marks_at(x: BoxState, job: u8) -> u32
@@ -51,7 +53,8 @@ pub fn marks_at(x: BoxState, job: u8) -> u32
     }
     let v = x.volatile;
     let j = job as usize;
-    v.marks[j]
+    let marks = v.marks;
+    marks[j]
 }
 
 // the ballot of the ACCEPT kept for a job and a district
@@ -63,7 +66,8 @@ pub fn kept_ballot(x: BoxState, job: u8, d: District) -> Ballot
         return house::no_ballot();
     }
     let v = x.volatile;
-    v.kept_ballots[at]
+    let ballots = v.kept_ballots;
+    ballots[at]
 }
 
 // and its stamp
@@ -75,7 +79,8 @@ pub fn kept_stamp(x: BoxState, job: u8, d: District) -> Stamp
         return house::no_stamp();
     }
     let v = x.volatile;
-    v.kept_stamps[at]
+    let stamps = v.kept_stamps;
+    stamps[at]
 }
 
 // place i of the delivered list
@@ -90,7 +95,8 @@ pub fn listed_at(x: BoxState, i: u8) -> Listed
     }
     let c = x.core;
     let at = i as usize;
-    c.list[at]
+    let list = c.list;
+    list[at]
 }
 
 // the last delivered stamp, none if the list is empty
@@ -113,8 +119,14 @@ pub fn on_list(x: BoxState, job: u8) -> bool
     let mut found = false;
     let c = x.core;
     let n = c.count;
+    let list = c.list;
     for i in 0..n {
-        let l = listed_at(x, i);
+        // behind the last place there is job 0 only
+        if house::MOST_JOBS <= i {
+            return found | (job == 0);
+        }
+        let at = i as usize;
+        let l = list[at];
         found = found | (l.job == job);
     }
     found
