@@ -59,8 +59,10 @@ pub fn put_row(x: BoxState, clock: u32, job: usize, row: Row) -> BoxState
 {
     let mut n = x;
     let mut c = x.core;
+    let mut table = c.table;
+    table[job] = row;
     c.clock = clock;
-    c.table[job] = row;
+    c.table = table;
     n.core = c;
     n
 }
@@ -83,7 +85,9 @@ pub fn flag(x: BoxState, job: usize) -> BoxState
 {
     let mut n = x;
     let mut c = x.core;
-    c.sent[job] = true;
+    let mut sent = c.sent;
+    sent[job] = true;
+    c.sent = sent;
     n.core = c;
     n
 }
@@ -95,8 +99,10 @@ pub fn put_listed(x: BoxState, job: u8, s: Stamp) -> BoxState
 {
     let mut n = x;
     let mut c = x.core;
+    let mut list = c.list;
     let at = c.count as usize;
-    c.list[at] = Listed { job: job, stamp: s };
+    list[at] = Listed { job: job, stamp: s };
+    c.list = list;
     c.count = c.count + 1;
     n.core = c;
     n
@@ -110,9 +116,15 @@ pub fn put_kept(x: BoxState, job: usize, d: District, b: Ballot, s: Stamp, marks
     let at = job * 4 + d.0 as usize;
     let mut n = x;
     let mut v = x.volatile;
-    v.kept_ballots[at] = b;
-    v.kept_stamps[at] = s;
-    v.marks[job] = marks;
+    let mut ballots = v.kept_ballots;
+    let mut stamps = v.kept_stamps;
+    let mut all_marks = v.marks;
+    ballots[at] = b;
+    stamps[at] = s;
+    all_marks[job] = marks;
+    v.kept_ballots = ballots;
+    v.kept_stamps = stamps;
+    v.marks = all_marks;
     n.volatile = v;
     n
 }
@@ -124,7 +136,9 @@ pub fn put_marks(x: BoxState, job: usize, marks: u32) -> BoxState
 {
     let mut n = x;
     let mut v = x.volatile;
-    v.marks[job] = marks;
+    let mut all_marks = v.marks;
+    all_marks[job] = marks;
+    v.marks = all_marks;
     n.volatile = v;
     n
 }

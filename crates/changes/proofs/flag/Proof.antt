@@ -5,12 +5,12 @@ use borrow.Author.Needs.{needs}
 use Rattle.changes.proofs.flag.Statement.{statement}
 use Rattle.changes.proofs.flag.Tie as tie
 
-element-write-c : tie.Need-element-write-c
-element-write-c c = search needs
+array-write-sent : tie.Need-array-write-sent
+array-write-sent c = search needs
 
 returns : tie.Need-returns
 unfolding flagged
 returns c = refl
 
 pub flag-spec : {M : Type 1} → statement M
-flag-spec = tie.close (tie.spec element-write-c returns)
+flag-spec = tie.close (tie.spec array-write-sent returns)

@@ -14,23 +14,23 @@ cast-at c = search needs
 add-at : tie.Need-add-at
 add-at c = search needs
 
-mul-b : tie.Need-mul-b
-mul-b c = search needs
+mul-ballots : tie.Need-mul-ballots
+mul-ballots c = search needs
 
-element-set-from-b : tie.Need-element-set-from-b
-element-set-from-b c = search needs
+array-set-from-ballots : tie.Need-array-set-from-ballots
+array-set-from-ballots c = search needs
 
-mul-s : tie.Need-mul-s
-mul-s c = search needs
+mul-stamps : tie.Need-mul-stamps
+mul-stamps c = search needs
 
-element-set-from-s : tie.Need-element-set-from-s
-element-set-from-s c = search needs
+array-set-from-stamps : tie.Need-array-set-from-stamps
+array-set-from-stamps c = search needs
 
-mul-v : tie.Need-mul-v
-mul-v c = search needs
+mul-all-marks : tie.Need-mul-all-marks
+mul-all-marks c = search needs
 
-element-write-v : tie.Need-element-write-v
-element-write-v c = search needs
+array-write-all-marks : tie.Need-array-write-all-marks
+array-write-all-marks c = search needs
 
 returns : tie.Need-returns
 unfolding keptAt
@@ -43,10 +43,10 @@ put-kept-spec =
     mul-at
     cast-at
     add-at
-    mul-b
-    element-set-from-b
-    mul-s
-    element-set-from-s
-    mul-v
-    element-write-v
+    mul-ballots
+    array-set-from-ballots
+    mul-stamps
+    array-set-from-stamps
+    mul-all-marks
+    array-write-all-marks
     returns)
