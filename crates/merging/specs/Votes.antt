@@ -1,25 +1,26 @@
 -- A quorum is more than one vote, so the merge has two of them; the highest ballot and the largest clock of two.
 use Prim.Native.Nat.{ℕ, _+_, _<_, _≤_}
-use mathlib.Core.Bool.{true, false}
+use mathlib.Core.Bool.{true, false, _&&_}
 use mathlib.Core.List.{List, [], _∷_}
 use mathlib.Core.Logic.{_⊎_, inl, inr}
 use mathlib.Core.Path.{_≡_, ap}
 use native.Mathlib.Omega.{arith}
 use lib.ListN.{set}
-use lib.Dec.{leb, ltb}
+use lib.Dec.{leb, ltb, eqb}
 use borrow.Author.Tests.{leb-true, le-ltb}
 use Rattle.laws.specs.Choice.{pick, pick-true, pick-false, look}
 use Rattle.laws.specs.Fold.{upto-step}
 use Rattle.laws.specs.Lex.{larger}
 use Rattle.laws.specs.Majority.{majority}
-use Rattle.house.specs.Pairs.{noBallot, higherBallot}
+use Rattle.house.specs.Pairs.{noBallot, noRow, sameBallot, higherBallot}
 use Rattle.house.specs.Orders.{ballotOrder}
+use Rattle.house.specs.declared.Ballot.{Ballot}
 use Rattle.house.specs.declared.Row.{Row}
 use Rattle.plans.specs.Plan.{sizeOf, quorumOf}
 use Rattle.plans.specs.declared.Plan.{Plan}
 use Rattle.records.specs.Rec.{noRows}
 use Rattle.boxes.specs.Multicast.{raised}
-use Rattle.boxes.specs.Leaders.{votesWith, votesCount, topBallot, topClock, mergedRow, mergedTable}
+use Rattle.boxes.specs.Leaders.{votesWith, votesCount, topBallot, topClock, voteRow, committedAt, acceptedAt, firstRow, mergedRow, mergedTable}
 use Rattle.boxes.specs.declared.Vote.{Vote}
 
 -- one vote is no quorum
@@ -47,6 +48,14 @@ with-held old new h = pick-true _ _ h
 pub top-of-two : (v w : Vote) → topBallot (v ∷ w ∷ []) ≡ higherBallot (v .cballot) (w .cballot)
 unfolding topBallot larger
 top-of-two v w = ap (higherBallot (v .cballot)) (pick-false noBallot (w .cballot) (ballotOrder .lowest (w .cballot)))
+
+-- a row of two votes, by their cballots and their rows of the job
+pub row-of-two : (v w : Vote) (j : ℕ) (lo hi : Ballot) (a b : Row) → v .cballot ≡ lo → voteRow v j ≡ a → w .cballot ≡ hi → voteRow w j ≡ b
+    → pick (eqb (a .phase) 3) a (pick (eqb (b .phase) 3) b
+    (pick (sameBallot lo (higherBallot lo hi) && eqb (a .phase) 2) a (pick (sameBallot hi (higherBallot lo hi) && eqb (b .phase) 2) b noRow)))
+    ≡ mergedRow (v ∷ w ∷ []) j
+unfolding mergedRow firstRow committedAt acceptedAt voteRow
+row-of-two v w j lo hi a b ev ra ew rb = rw (top-of-two v w, ev, ra, ew, rb)
 
 pub clock-of-two : (v w : Vote) → topClock (v ∷ w ∷ []) ≡ raised (v .clock) (w .clock)
 unfolding topClock raised

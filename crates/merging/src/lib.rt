@@ -2,10 +2,11 @@
 ghost use mathlib.Core.Path.{_≡_};
 ghost use mathlib.Core.Bool.{true};
 ghost use mathlib.Core.List.{[], _∷_};
-ghost use Prim.Native.Nat.{_<_, _≤_};
+ghost use Prim.Native.Nat.{ℕ, _≤_};
 ghost use Rattle.laws.specs.Choice.{pick};
+ghost use Rattle.house.specs.Pairs.{higherBallot};
 ghost use Rattle.boxes.specs.Multicast.{raised};
-ghost use Rattle.boxes.specs.Leaders.{voteOf, votesWith, topBallot, topClock, mergedRow, mergedTable, merged};
+ghost use Rattle.boxes.specs.Leaders.{voteOf, votesWith, topClock, voteRow, mergedRow, mergedTable, merged};
 use boxes::BoxState;
 use boxes::Status;
 use boxes::Vote;
@@ -14,6 +15,12 @@ use house::BoxNo;
 use house::Row;
 use house::Stamp;
 use plans::Plan;
+
+// what the votes come to: the larger clock and the merged table
+pub struct Merged {
+    pub clock: u32,
+    pub table: [Row; 64],
+}
 
 // the clock raised to a time
 pub fn raise(c: u32, t: u32) -> u32
@@ -35,13 +42,14 @@ pub fn vote_of(from: BoxNo, cballot: Ballot, clock: Stamp, table: [Row; 64]) -> 
     }
 }
 
-// the highest cballot of two votes
-pub fn top_ballot(low: Vote, high: Vote) -> Ballot
-    ensures { λ r. ⌜ r ≡ topBallot (low ∷ high ∷ []) ⌝ }
+// the higher of two ballots
+pub fn higher_ballot(low: Ballot, high: Ballot) -> Ballot
+    ensures { λ r. ⌜ r ≡ higherBallot low high ⌝ }
 {
-    let a = low.cballot;
-    let b = high.cballot;
-    if house::ballot_below(a, b) { b } else { a }
+    if house::ballot_below(low, high) {
+        return high;
+    }
+    low
 }
 
 // the larger clock of two votes
@@ -64,18 +72,13 @@ pub fn first_row(one: bool, low: Row, two: bool, high: Row, other: Row) -> Row
     other
 }
 
-// committed at a voter, else accepted at a voter of highest cballot, else start
-pub fn merged_row(low: Vote, high: Vote, job: usize) -> Row
-    requires { ⌜ job < 64 ⌝ }
-    ensures { λ r. ⌜ r ≡ mergedRow (low ∷ high ∷ []) job ⌝ }
+// committed at a voter, else accepted at a voter of highest cballot, else start: two votes' cballots and their rows of the job
+pub fn merged_row(low: Ballot, a: Row, high: Ballot, b: Row) -> Row
+    ensures { λ r. ⌜ ((u v : Vote) (j : ℕ) → u .cballot ≡ low → voteRow u j ≡ a → v .cballot ≡ high → voteRow v j ≡ b → r ≡ mergedRow (u ∷ v ∷ []) j) ⌝ }
 {
-    let a = low.table[job];
-    let b = high.table[job];
-    let top = top_ballot(low, high);
-    let one = low.cballot;
-    let two = high.cballot;
-    let at_one = house::same_ballot(one, top) & (a.phase == 2);
-    let at_two = house::same_ballot(two, top) & (b.phase == 2);
+    let top = higher_ballot(low, high);
+    let at_one = house::same_ballot(low, top) & (a.phase == 2);
+    let at_two = house::same_ballot(high, top) & (b.phase == 2);
     let start = house::no_row();
     let accepted = first_row(at_one, a, at_two, b, start);
     first_row(a.phase == 3, a, b.phase == 3, b, accepted)
@@ -85,43 +88,61 @@ pub fn merged_table(low: Vote, high: Vote, jobs: u8) -> [Row; 64]
     requires { ⌜ jobs ≤ 64 ⌝ }
     ensures { λ r. ⌜ r ≡ mergedTable (low ∷ high ∷ []) jobs ⌝ }
 {
+    let one = low.cballot;
+    let two = high.cballot;
+    let rows = low.table;
+    let others = high.table;
     let n = jobs as usize;
     let start = house::no_row();
     let mut table = [start; 64];
     for j in 0..n {
-        let row = merged_row(low, high, j);
-        table[j] = row;
+        let a = rows[j];
+        let b = others[j];
+        table[j] = merged_row(one, a, two, b);
     }
     table
 }
 
-// two votes, the lower box number first: table merged, clock the larger, sent flags cleared, cballot set, vote dropped
-pub fn merge_two(plan: Plan, x: BoxState, low: Vote, high: Vote) -> BoxState
-    requires { ⌜ plan .jobs ≤ 64 ⌝ }
-    ensures { λ r. ⌜ r ≡ merged plan x (low ∷ high ∷ []) ⌝ }
+// two votes, the lower box number first
+pub fn merge_two(low: Vote, high: Vote, jobs: u8) -> Merged
+    requires { ⌜ jobs ≤ 64 ⌝ }
+    ensures { λ r. ⌜ (r .clock ≡ topClock (low ∷ high ∷ [])) × (r .table ≡ mergedTable (low ∷ high ∷ []) jobs) ⌝ }
 {
-    let c = x.core;
-    let b = c.ballot;
     let clock = top_clock(low, high);
-    let table = merged_table(low, high, plan.jobs);
-    let with_table = changes::put_table(x, clock, table);
-    let cleared = [false; 64];
-    let unsent = changes::put_sent(with_table, cleared);
-    let mode = changes::put_mode(unsent, Status::Recovering, b, b);
-    changes::put_vote(mode, boxes::no_vote())
+    let table = merged_table(low, high, jobs);
+    Merged {
+        clock: clock,
+        table: table,
+    }
 }
 
-// the kept vote and the new one
+// the kept vote and the new one, by rising box number
+pub fn merge_votes(old: Vote, new: Vote, jobs: u8) -> Merged
+    requires { ⌜ (old .held ≡ true) × (jobs ≤ 64) ⌝ }
+    ensures { λ r. ⌜ (r .clock ≡ topClock (votesWith old new)) × (r .table ≡ mergedTable (votesWith old new) jobs) ⌝ }
+{
+    let p = old.voter;
+    let q = new.voter;
+    if p.0 < q.0 {
+        return merge_two(old, new, jobs);
+    }
+    merge_two(new, old, jobs)
+}
+
+// table merged, clock the larger, sent flags cleared, cballot set, vote dropped
 pub fn merge(plan: Plan, x: BoxState, new: Vote) -> BoxState
     requires { ⌜ (x .volatile .vote .held ≡ true) × (plan .jobs ≤ 64) ⌝ }
     ensures { λ r. ⌜ r ≡ merged plan x (votesWith (x .volatile .vote) new) ⌝ }
 {
+    let c = x.core;
+    let b = c.ballot;
     let v = x.volatile;
     let old = v.vote;
-    let p = old.voter;
-    let q = new.voter;
-    if p.0 < q.0 {
-        return merge_two(plan, x, old, new);
-    }
-    merge_two(plan, x, new, old)
+    let m = merge_votes(old, new, plan.jobs);
+    let table = m.table;
+    let with_table = changes::put_table(x, m.clock, table);
+    let cleared = [false; 64];
+    let unsent = changes::put_sent(with_table, cleared);
+    let mode = changes::put_mode(unsent, Status::Recovering, b, b);
+    changes::put_vote(mode, boxes::no_vote())
 }

@@ -1,28 +1,43 @@
 -- `merging::merge` meets its contract.
-use mathlib.Core.Path.{sym, _∙_, ap}
-use borrow.Author.Tests.{le-ltb, lt-ltb}
-use Rattle.merging.specs.Votes.{with-held}
+use mathlib.Core.Path.{_∙_}
 use Rattle.boxes.specs.Leaders.{merged}
-use Rattle.laws.specs.Choice.{pick-true, pick-false}
 use borrow.Author.Needs.{needs}
 use Rattle.merging.proofs.merge.Statement.{statement}
 use Rattle.merging.proofs.merge.Tie as tie
 
-merge-two-requires : tie.Need-merge-two-requires
-merge-two-requires c κs = search needs
+merge-votes-requires : tie.Need-merge-votes-requires
+merge-votes-requires c κs = search needs
+
+put-table-requires : tie.Need-put-table-requires
+put-table-requires c κs = search needs
+
+put-sent-requires : tie.Need-put-sent-requires
+put-sent-requires c κs = search needs
+
+put-mode-requires : tie.Need-put-mode-requires
+put-mode-requires c κs = search needs
+
+no-vote-requires : tie.Need-no-vote-requires
+no-vote-requires c κs = search needs
+
+put-vote-requires : tie.Need-put-vote-requires
+put-vote-requires c κs = search needs
 
 returns : tie.Need-returns
+unfolding merged
 returns c =
-    let a = c .before .before .before .before .before .before .before .before .args in
-    c .merge-two .ensures ∙ ap (merged (a .plan) (a .x)) (sym (with-held (a .x .volatile .vote) (a .new) (c .before .before .before .before .before .before .before .before .pre .0) ∙ pick-true _ _ (lt-ltb _ _ (c .before .if1 .taken))))
-
-merge-two-requires-2 : tie.Need-merge-two-requires-2
-merge-two-requires-2 c κs = search needs
-
-returns-2 : tie.Need-returns-2
-returns-2 c =
-    let a = c .before .before .before .before .before .before .before .before .args in
-    c .merge-two2 .ensures ∙ ap (merged (a .plan) (a .x)) (sym (with-held (a .x .volatile .vote) (a .new) (c .before .before .before .before .before .before .before .before .pre .0) ∙ pick-false _ _ (le-ltb _ _ (c .before .if1 .left))))
+    let m = c .before .before .before .before .before .before .merge-votes in
+    c .put-vote .ensures
+    ∙ rw (c .before .before .put-mode .ensures, c .before .before .before .put-sent .ensures, c .before .before .before .before .put-table .ensures, m .ensures .0, m .ensures .1, c .before .no-vote .ensures)
 
 pub merge-spec : {M : Type 1} → statement M
-merge-spec = tie.close (tie.spec merge-two-requires returns merge-two-requires-2 returns-2)
+merge-spec =
+    tie.close
+    (tie.spec
+    merge-votes-requires
+    put-table-requires
+    put-sent-requires
+    put-mode-requires
+    no-vote-requires
+    put-vote-requires
+    returns)
