@@ -7,6 +7,7 @@ use boxes::BoxState;
 use house::Ballot;
 use house::BoxNo;
 use house::District;
+use house::Row;
 use house::Stamp;
 use plans::Plan;
 use records::Record;
@@ -49,16 +50,12 @@ pub fn accept_record(x: BoxState, to: BoxNo, job: u8) -> Record
     draft(2, own, to, job, b, s, house::no_stamp())
 }
 
-pub fn deliver_record(x: BoxState, to: BoxNo, job: u8) -> Record
-    ensures { λ r. ⌜ r ≡ carried (deliver (ownOf x) to job (record { ballot = x .core .cballot; local = rowAt x job .local; global = rowAt x job .global })) ⌝ }
+pub fn deliver_record(from: BoxNo, to: BoxNo, job: u8, b: Ballot, row: Row) -> Record
+    ensures { λ r. ⌜ r ≡ carried (deliver from to job (record { ballot = b; local = row .local; global = row .global })) ⌝ }
 {
-    let c = x.core;
-    let own = c.own;
-    let b = c.cballot;
-    let row = looking::row_at(x, job);
     let s = row.local;
     let t = row.global;
-    draft(4, own, to, job, b, s, t)
+    draft(4, from, to, job, b, s, t)
 }
 
 // the ballot kept for a named district, none for another

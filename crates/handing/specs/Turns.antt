@@ -1,21 +1,39 @@
 -- What one turn adds, that nothing more happens once no job is ready, and that each turn's bytes fit into the whole.
-use Prim.Native.Nat.{ℕ, zero, suc, _+_, _-_, _≤_}
+use Prim.Native.Nat.{ℕ, zero, suc, _+_, _-_, _≤_, _<_}
+use mathlib.Core.Bool.{Bool, true}
 use mathlib.Core.List.{List, [], _++_}
 use mathlib.Core.Path.{_≡_, refl, sym, ap, _∙_}
 use native.Mathlib.Omega.{arith}
 use lib.Dec.{eqb}
-use lib.ListN.{length, length-append}
+use lib.ListN.{length, length-append, getD, set}
 use borrow.Author.Tests.{eq-eqb, ne-eqb}
 use Rattle.laws.specs.Choice.{pick-true, pick-false, pick-both}
 use Rattle.laws.specs.Fold.{upto-step}
 use Rattle.laws.specs.Place.{Begins, begins-refl, begins-append, begins-trans}
 use Rattle.house.specs.Limits.{noJob}
+use Rattle.house.specs.Pairs.{noRow}
+use Rattle.house.specs.declared.Ballot.{Ballot}
+use Rattle.house.specs.declared.BoxNo.{BoxNo}
+use Rattle.house.specs.declared.Row.{Row}
+use Rattle.plans.specs.Plan.{sameHome}
 use Rattle.plans.specs.declared.Plan.{Plan}
-use Rattle.records.specs.Rec.{Rec}
+use Rattle.records.specs.Rec.{Rec, deliver}
 use Rattle.records.specs.Bytes.{encodeAll}
+use Rattle.boxes.specs.Box.{rowAt, putSent}
+use Rattle.boxes.specs.Out.{toEach}
 use Rattle.boxes.specs.Ready.{Handing, nextReady, delivers, flagged, handNext, handTurns}
 use Rattle.boxes.specs.declared.BoxState.{BoxState}
+use Rattle.boxes.specs.declared.Core.{Core}
+use Rattle.boxes.specs.declared.Volatile.{Volatile}
 use Rattle.sends.specs.Sends.{encode-append}
+
+-- a box with this core
+abbrev pub boxOf : Core → Volatile → BoxState
+boxOf c v = record { core = c; volatile = v }
+
+-- DELIVER of job j with this row, under this ballot, to the boxes of the own district
+unfoldable pub deliversFrom : Plan → BoxNo → Ballot → Row → ℕ → List Rec
+deliversFrom P own b row j = toEach P (λ p. sameHome P p own) (λ to. deliver own to j (record { ballot = b; local = row .local; global = row .global }))
 
 -- a turn with a ready job
 pub hand-more : (P : Plan) (h : Handing) (j : ℕ) → j ≡ nextReady P (h .box) → (j ≡ noJob → ⊥)
@@ -66,3 +84,26 @@ pub turns-fit : (P : Plan) (x : BoxState) (i n : ℕ) → i ≤ n → length (en
 turns-fit P x i n h =
     let s : i + (n - i) ≡ n = omega arith in
     rw (← ap (λ (m : ℕ). length (encodeAll P (handTurns P x m .sent))) s) (begins-bytes P (turns-begin P x i (n - i)))
+
+-- a turn of box x, whose flags are these by now, with ready job j: what it flags and adds
+pub record Turn (P : Plan) (x : BoxState) (i n : ℕ) (flags : List Bool) (j : ℕ) (more : List Rec) : Type 0 where
+  pub box : putSent x (set flags j true) ≡ handTurns P x (i + 1) .box
+  pub bytes : encodeAll P (handTurns P x i .sent) ++ encodeAll P more ≡ encodeAll P (handTurns P x (i + 1) .sent)
+  pub count : length (encodeAll P (handTurns P x i .sent)) + length (encodeAll P more) ≡ length (encodeAll P (handTurns P x (i + 1) .sent))
+  pub number : length (handTurns P x i .sent) + length more ≡ length (handTurns P x (i + 1) .sent)
+  pub fits : length (encodeAll P (handTurns P x i .sent)) + length (encodeAll P more) ≤ length (encodeAll P (handTurns P x n .sent))
+
+pub turn : (P : Plan) (x : BoxState) (i n : ℕ) (flags : List Bool) (j : ℕ)
+    → putSent x flags ≡ handTurns P x i .box → j ≡ nextReady P (putSent x flags) → (j ≡ noJob → ⊥) → i < n
+    → Turn P x i n flags j (deliversFrom P (x .core .own) (x .core .cballot) (getD (x .core .table) j noRow) j)
+unfolding deliversFrom delivers flagged rowAt
+turn P x i n flags j ec ej nj l =
+    let old = handTurns P x i .sent in let more = deliversFrom P (x .core .own) (x .core .cballot) (getD (x .core .table) j noRow) j in
+    let m : handTurns P x (i + 1) ≡ record { box = putSent x (set flags j true); sent = old ++ more } =
+    sym (turn-step P x i) ∙ hand-more P (handTurns P x i) j (rw (← ec) ej) nj
+    ∙ ap (λ (y : BoxState). record { box = flagged y j; sent = old ++ delivers P y j }) (sym ec) in
+    let e : encodeAll P old ++ encodeAll P more ≡ encodeAll P (handTurns P x (i + 1) .sent) = rw m (sym (encode-append P old more)) in
+    let k : length (encodeAll P old) + length (encodeAll P more) ≡ length (encodeAll P (handTurns P x (i + 1) .sent)) =
+    sym (length-append (encodeAll P old) (encodeAll P more)) ∙ ap length e in
+    let f = turns-fit P x (i + 1) n (omega arith) in
+    record { box = rw m; bytes = e; count = k; number = rw m (sym (length-append old more)); fits = omega arith }

@@ -1,73 +1,106 @@
--- one turn with a ready job
-use Rattle.handing.specs.Turns.{hand-more, turn-step, turn-none, turns-stay, turns-fit}
-use Rattle.sends.specs.Sends.{encode-append, encode-none}
-use Rattle.boxes.specs.declared.BoxState.{BoxState}
-use Rattle.boxes.specs.Ready.{nextReady, delivers, flagged, handTurns, handOut}
-use Rattle.records.specs.Bytes.{encodeAll}
-use Rattle.plans.specs.declared.Plan.{Plan}
-use Rattle.plans.specs.Says.{plan-says}
-use Rattle.house.specs.Limits.{noJob}
-use Rattle.laws.specs.Tray.{onto, onto-nil, rest-of, behind}
-use lib.ListN.{length, length-append, length-drop}
-use native.Mathlib.Omega.{arith}
-use mathlib.Core.Path.{_≡_, refl, sym, ap, _∙_}
-use mathlib.Core.Logic.{_⊎_, inl, inr}
-use mathlib.Core.List.{List, _++_}
+-- `handing::hand_out` meets its contract.
 use Prim.Native.Nat.{ℕ, _+_, _-_, _*_, _≤_, _<_}
+use mathlib.Core.List.{List}
+use mathlib.Core.Logic.{_⊎_, inl, inr}
+use mathlib.Core.Path.{_≡_, refl, sym, ap, _∙_}
+use native.Mathlib.Omega.{arith}
+use lib.ListN.{length, getD, length-drop}
+use Rattle.laws.specs.Tray.{onto, onto-nil, rest-of, behind}
+use Rattle.house.specs.Limits.{noJob}
+use Rattle.house.specs.Pairs.{noRow}
+use Rattle.plans.specs.Says.{plan-says}
+use Rattle.records.specs.Bytes.{encodeAll}
+use Rattle.records.specs.Rec.{Rec}
+use Rattle.boxes.specs.Box.{putSent}
+use Rattle.boxes.specs.Ready.{nextReady, handTurns, handOut}
+use Rattle.boxes.specs.declared.Volatile.{Volatile}
+use Rattle.sends.specs.Sends.{encode-none}
+use Rattle.handing.specs.Turns.{boxOf, deliversFrom, turn-none, turns-stay, Turn, turn}
 use borrow.Author.Needs.{needs}
 use Rattle.handing.proofs.hand_out.Statement.{statement}
 use Rattle.handing.proofs.hand_out.Tie as tie
 
-record Turn (P : Plan) (x : BoxState) (i n : ℕ) (cur : BoxState) (j : ℕ) : Type 0 where
-  box : flagged cur j ≡ handTurns P x (i + 1) .box
-  bytes : encodeAll P (handTurns P x i .sent) ++ encodeAll P (delivers P cur j) ≡ encodeAll P (handTurns P x (i + 1) .sent)
-  count : length (encodeAll P (handTurns P x i .sent)) + length (encodeAll P (delivers P cur j)) ≡ length (encodeAll P (handTurns P x (i + 1) .sent))
-  number : length (handTurns P x i .sent) + length (delivers P cur j) ≡ length (handTurns P x (i + 1) .sent)
-  fits : length (encodeAll P (handTurns P x i .sent)) + length (encodeAll P (delivers P cur j)) ≤ length (encodeAll P (handTurns P x n .sent))
+abbrev Inv-loop : tie.InvT-loop
+Inv-loop t₀ plan c table sent₀ used₀ records₀ n i₀ t sent used records i =
+    (i ≤ n) × (n ≤ 64) × (length t ≡ length t₀) × (records ≤ 12 * i) × (used ≤ length t₀)
+    × ((v : Volatile) → let h = handTurns plan (boxOf c v) i in (putSent (boxOf c v) sent ≡ h .box)
+    × (used ≡ length (encodeAll plan (h .sent))) × (records ≡ length (h .sent)) × (t ≡ onto (encodeAll plan (h .sent)) t₀))
 
-turn : (P : Plan) (x : BoxState) (i n : ℕ) (cur : BoxState) (j : ℕ) → cur ≡ handTurns P x i .box → j ≡ nextReady P cur → (j ≡ noJob → ⊥) → i < n → Turn P x i n cur j
-turn P x i n cur j ec ej nj l =
-    let m : handTurns P x (i + 1) ≡ record { box = flagged cur j; sent = handTurns P x i .sent ++ delivers P cur j } =
-    sym (turn-step P x i) ∙ hand-more P (handTurns P x i) j (rw (← ec) ej) nj ∙ rw (← ec) in
-    let e : encodeAll P (handTurns P x i .sent) ++ encodeAll P (delivers P cur j) ≡ encodeAll P (handTurns P x (i + 1) .sent) =
-    rw m (sym (encode-append P (handTurns P x i .sent) (delivers P cur j))) in
-    let k : length (encodeAll P (handTurns P x i .sent)) + length (encodeAll P (delivers P cur j)) ≡ length (encodeAll P (handTurns P x (i + 1) .sent)) =
-    sym (length-append (encodeAll P (handTurns P x i .sent)) (encodeAll P (delivers P cur j))) ∙ ap length e in
-    let f = turns-fit P x (i + 1) n (omega arith) in
-    record { box = rw m; bytes = e; count = k; number = rw m (sym (length-append (handTurns P x i .sent) (delivers P cur j))); fits = omega arith }
+abbrev μ-loop : tie.MeasureT-loop
+μ-loop t₀ plan c table sent₀ used₀ records₀ n i₀ t sent used records i = n - i
+
+-- the records of the next ready job
+abbrev more : (c : tie.Else1 Inv-loop μ-loop) → List Rec
+more c =
+    let a = c .before .before .before .before .before .before .before .before .args in let j = c .before .next-ready .result in
+    deliversFrom (a .plan) (a .c .own) (a .c .cballot) (getD (a .c .table) j noRow) j
+
+-- one turn with a ready job, of a box with this core
+turning : (c : tie.Else1 Inv-loop μ-loop) (v : Volatile)
+    → let a = c .before .before .before .before .before .before .before .before .args in let l = c .before .before .before .loop in
+    Turn (a .plan) (boxOf (a .c) v) (l .i) (a .plan .jobs) (l .sent) (c .before .next-ready .result) (more c)
+turning c v =
+    let a = c .before .before .before .before .before .before .before .before .args in let l = c .before .before .before .loop in
+    let e = c .before .next-ready .ensures .0 (a .plan) (putSent (boxOf (a .c) v) (l .sent)) refl refl refl in
+    turn (a .plan) (boxOf (a .c) v) (l .i) (a .plan .jobs) (l .sent) (c .before .next-ready .result) (l .inv .5 v .0) e (c .if1 .left)
+    (c .before .before .loop-test .taken)
+
+-- and its bytes fit
+fitting : (c : tie.Else1 Inv-loop μ-loop)
+    → let a = c .before .before .before .before .before .before .before .before .args in
+    c .before .before .before .loop .used + length (encodeAll (a .plan) (more c)) ≤ length (a .t .now)
+fitting c =
+    let l = c .before .before .before .loop in let r = c .before .before .before .before .before .before .before .before .pre .1 in
+    let g = turning c (r .0) in omega (arith, g .fits, l .inv .5 (r .0) .1, r .1)
 
 -- a ready job's number is one of the table's
 low : {j n : ℕ} → (j ≡ noJob) ⊎ (j < n) → (j ≡ noJob → ⊥) → n ≤ 64 → j < 64
 low (inl e) h k = absurd (h e)
 low (inr l) h k = omega arith
 
-abbrev Inv-loop : tie.InvT-loop
-Inv-loop t₀ plan cur₀ used₀ records₀ n i₀ t cur used records i =
-    (i ≤ n) × (n ≡ plan .jobs) × (n ≤ 64) × (length t ≡ length t₀) × (length (encodeAll plan (handTurns plan cur₀ n .sent)) ≤ length t₀)
-    × (cur ≡ handTurns plan cur₀ i .box) × (used ≡ length (encodeAll plan (handTurns plan cur₀ i .sent))) × (records ≡ length (handTurns plan cur₀ i .sent)) × (records ≤ 12 * i)
-    × (t ≡ onto (encodeAll plan (handTurns plan cur₀ i .sent)) t₀) × (used ≤ length t₀)
+low-job : (c : tie.Else1 Inv-loop μ-loop) → c .before .next-ready .result < 64
+low-job c = low (c .before .next-ready .ensures .1) (c .if1 .left) (c .before .before .before .loop .inv .1)
 
-abbrev μ-loop : tie.MeasureT-loop
-μ-loop t₀ plan cur₀ used₀ records₀ n i₀ t cur used records i = n - i
+cast-n : tie.Need-cast-n Inv-loop μ-loop
+cast-n c = search needs
 
 loop-holds : tie.Need-loop-holds Inv-loop μ-loop
 loop-holds c =
-    let a = c .before .args in let z = turn-none (a .plan) (a .x) in let S = plan-says (a .plan) (c .before .pre .0) in
-    (search needs, refl, S .jobs-most, refl, c .before .pre .1, rw z, rw (z, encode-none (a .plan)), rw z, search needs, rw (z, encode-none (a .plan)) (sym (onto-nil (a .t .now))), omega arith)
+    let a = c .before .before .before .before .args in let S = plan-says (a .plan) (c .before .before .before .before .pre .0) in (
+      search needs,
+      S .jobs-most,
+      refl,
+      search needs,
+      search needs,
+      λ v. let z = turn-none (a .plan) (boxOf (a .c) v) in let e = encode-none (a .plan) in
+          (rw z, rw (z, e), rw z, rw (z, e) (sym (onto-nil (a .t .now)))),
+    )
 
 next-ready-requires : tie.Need-next-ready-requires Inv-loop μ-loop
 next-ready-requires c κs = search needs
 
 same-length : tie.Need-same-length Inv-loop μ-loop
-same-length c = c .before .before .before .loop .inv .3
+same-length c = c .before .before .before .loop .inv .2
 
 returns : tie.Need-returns Inv-loop μ-loop
 returns c =
-    let a = c .before .before .before .before .before .args in let l = c .before .before .before .loop in
-    let e : nextReady (a .plan) (handTurns (a .plan) (a .x) (l .i) .box) ≡ noJob = rw (← l .inv .5) (sym (c .before .next-ready .ensures .0) ∙ c .if1 .taken) in
+    let a = c .before .before .before .before .before .before .before .before .args in let l = c .before .before .before .loop in λ v.
+    let q = l .inv .5 v in let x = boxOf (a .c) v in
+    let e : nextReady (a .plan) (handTurns (a .plan) x (l .i) .box) ≡ noJob =
+    rw (← q .0) (sym (c .before .next-ready .ensures .0 (a .plan) (putSent x (l .sent)) refl refl refl) ∙ c .if1 .taken) in
     let s : l .i + (a .plan .jobs - l .i) ≡ a .plan .jobs = omega (arith, l .inv .0) in
-    let z : handOut (a .plan) (a .x) ≡ handTurns (a .plan) (a .x) (l .i) = sym (ap (handTurns (a .plan) (a .x)) s) ∙ turns-stay (a .plan) (a .x) (l .i) (a .plan .jobs - l .i) e in
-    (rw z (l .inv .5), rw z (l .inv .6), rw z (l .inv .7), rw z (l .inv .9))
+    let z : handOut (a .plan) x ≡ handTurns (a .plan) x (l .i) =
+    sym (ap (handTurns (a .plan) x) s) ∙ turns-stay (a .plan) x (l .i) (a .plan .jobs - l .i) e in
+    (rw z (q .0), rw z (q .1), rw z (q .2), rw z (q .3))
+
+cast-at : tie.Need-cast-at Inv-loop μ-loop
+cast-at c = search needs
+
+mul-row : tie.Need-mul-row Inv-loop μ-loop
+mul-row c = let l = low-job c in search needs
+
+array-copy-out-row : tie.Need-array-copy-out-row Inv-loop μ-loop
+array-copy-out-row c = low-job c
 
 sub-hand-job : tie.Need-sub-hand-job Inv-loop μ-loop
 sub-hand-job c = search needs
@@ -80,24 +113,21 @@ part-hand-job-end c = search needs
 
 hand-job-requires : tie.Need-hand-job-requires Inv-loop μ-loop
 hand-job-requires c κs =
-    let a = c .before .before .before .before .before .before .args in let l = c .before .before .before .before .loop in
-    let g = turn (a .plan) (a .x) (l .i) (a .plan .jobs) (l .cur) (c .before .before .next-ready .result) (l .inv .5) (c .before .before .next-ready .ensures .0) (c .before .if1 .left) (c .before .before .before .loop-test .taken) in
-    (c .before .before .before .before .before .before .pre .0, rw (rest-of (l .used) (l .t), length-drop) (omega (arith, g .fits, l .inv .3, l .inv .4, l .inv .6)))
+    let l = c .before .before .before .before .before .before .before .loop in let f = fitting (c .before .before .before .before) in (
+      c .before .before .before .before .before .before .before .before .before .before .before .before .pre .0,
+      rw (rest-of (l .used) (l .t), length-drop) (omega (arith, f, l .inv .2)),
+    )
 
 add-used : tie.Need-add-used Inv-loop μ-loop
 add-used c =
-    let a = c .before .before .before .before .before .before .before .before .before .before .args in let l = c .before .before .before .before .before .before .before .before .loop in
-    let g = turn (a .plan) (a .x) (l .i) (a .plan .jobs) (l .cur) (c .before .before .before .before .before .before .next-ready .result) (l .inv .5) (c .before .before .before .before .before .before .next-ready .ensures .0) (c .before .before .before .before .before .if1 .left) (c .before .before .before .before .before .before .before .loop-test .taken) in
-    omega (arith, g .fits, l .inv .3, l .inv .4, l .inv .6, c .before .before .before .hand-job .ensures .0)
+    let f = fitting (c .before .before .before .before .before .before .before .before) in
+    omega (arith, f, c .before .before .before .hand-job .ensures .0)
 
 add-records : tie.Need-add-records Inv-loop μ-loop
 add-records c = search needs
 
-cast-at : tie.Need-cast-at Inv-loop μ-loop
-cast-at c = search needs
-
-flag-requires : tie.Need-flag-requires Inv-loop μ-loop
-flag-requires c κs = low (c .before .before .before .before .before .before .before .next-ready .ensures .1) (c .before .before .before .before .before .before .if1 .left) (c .before .before .before .before .before .before .before .before .before .loop .inv .2)
+array-write-sent : tie.Need-array-write-sent Inv-loop μ-loop
+array-write-sent c = low-job (c .before .before .before .before .before .before .before .before .before)
 
 add-i : tie.Need-add-i Inv-loop μ-loop
 add-i c = search needs
@@ -107,32 +137,35 @@ loop-less c = search needs
 
 loop-again : tie.Need-loop-again Inv-loop μ-loop
 loop-again c =
-    let a = c .before .before .before .before .before .before .before .before .before .before .before .before .args in let l = c .before .before .before .before .before .before .before .before .before .before .loop in let q = c .before .before .before .before .before .hand-job in
-    let g = turn (a .plan) (a .x) (l .i) (a .plan .jobs) (l .cur) (c .before .before .before .before .before .before .before .before .next-ready .result) (l .inv .5) (c .before .before .before .before .before .before .before .before .next-ready .ensures .0) (c .before .before .before .before .before .before .before .if1 .left) (c .before .before .before .before .before .before .before .before .before .loop-test .taken) in (
-      omega (arith, c .before .before .before .before .before .before .before .before .before .loop-test .taken),
+    let d = c .before .before .before .before .before .before .before .before .before in
+    let a = d .before .before .before .before .before .before .before .before .args in
+    let l = d .before .before .before .loop in let q = c .before .before .before .before .hand-job in let f = fitting d in (
+      omega (arith, d .before .before .loop-test .taken),
       l .inv .1,
-      l .inv .2,
-      c .before .before .before .before .t .given .1 ∙ l .inv .3,
-      l .inv .4,
-      c .flag .ensures ∙ g .box,
-      rw (l .inv .6, q .ensures .0) (g .count),
-      rw (l .inv .7, q .ensures .1) (g .number),
-      omega (arith, q .ensures .3, l .inv .8),
-      behind (encodeAll (a .plan) (handTurns (a .plan) (a .x) (l .i) .sent)) (encodeAll (a .plan) (delivers (a .plan) (l .cur) (c .before .before .before .before .before .before .before .before .next-ready .result))) (a .t .now) (l .t) (q .last .0) (l .used) (l .inv .6) (l .inv .9) (q .ensures .2) ∙ ap (λ (bs : List ℕ). onto bs (a .t .now)) (g .bytes),
-      omega (arith, g .fits, l .inv .3, l .inv .4, l .inv .6, q .ensures .0),
+      c .before .before .before .t .given .1 ∙ l .inv .2,
+      omega (arith, q .ensures .3, l .inv .3),
+      omega (arith, f, q .ensures .0),
+      λ v.
+          let g = turning d v in let p = l .inv .5 v in let old = encodeAll (a .plan) (handTurns (a .plan) (boxOf (a .c) v) (l .i) .sent) in (
+            g .box,
+            rw (p .1, q .ensures .0) (g .count),
+            rw (p .2, q .ensures .1) (g .number),
+            behind old (encodeAll (a .plan) (more d)) (a .t .now) (l .t) (q .last .0) (l .used) (p .1) (p .3) (q .ensures .2)
+                ∙ ap (λ (bs : List ℕ). onto bs (a .t .now)) (g .bytes),
+          ),
     )
 
 same-length-2 : tie.Need-same-length-2 Inv-loop μ-loop
-same-length-2 c = c .before .loop .inv .3
+same-length-2 c = c .before .loop .inv .2
 
 returns-2 : tie.Need-returns-2 Inv-loop μ-loop
 returns-2 c =
-    let a = c .before .before .before .args in let l = c .before .loop in
-    let e : l .i ≡ a .plan .jobs = omega arith in (
-      l .inv .5 ∙ ap (λ (k : ℕ). handTurns (a .plan) (a .x) k .box) e,
-      l .inv .6 ∙ ap (λ (k : ℕ). length (encodeAll (a .plan) (handTurns (a .plan) (a .x) k .sent))) e,
-      l .inv .7 ∙ ap (λ (k : ℕ). length (handTurns (a .plan) (a .x) k .sent)) e,
-      l .inv .9 ∙ ap (λ (k : ℕ). onto (encodeAll (a .plan) (handTurns (a .plan) (a .x) k .sent)) (a .t .now)) e,
+    let a = c .before .before .before .before .before .before .args in let l = c .before .loop in let e : l .i ≡ a .plan .jobs = omega arith in λ v.
+    let q = l .inv .5 v in let x = boxOf (a .c) v in (
+      q .0 ∙ ap (λ (k : ℕ). handTurns (a .plan) x k .box) e,
+      q .1 ∙ ap (λ (k : ℕ). length (encodeAll (a .plan) (handTurns (a .plan) x k .sent))) e,
+      q .2 ∙ ap (λ (k : ℕ). length (handTurns (a .plan) x k .sent)) e,
+      q .3 ∙ ap (λ (k : ℕ). onto (encodeAll (a .plan) (handTurns (a .plan) x k .sent)) (a .t .now)) e,
     )
 
 pub hand-out-spec : {M : Type 1} → statement M
@@ -141,18 +174,21 @@ hand-out-spec =
     (tie.spec
     Inv-loop
     μ-loop
+    cast-n
     loop-holds
     next-ready-requires
     same-length
     returns
+    cast-at
+    mul-row
+    array-copy-out-row
     sub-hand-job
     part-hand-job-start
     part-hand-job-end
     hand-job-requires
     add-used
     add-records
-    cast-at
-    flag-requires
+    array-write-sent
     add-i
     loop-less
     loop-again
