@@ -2,7 +2,6 @@
 ghost use mathlib.Core.Path.{_≡_};
 ghost use Prim.Native.Nat.{_<_};
 ghost use Rattle.boxes.specs.Box.{putMode, putTable, putRow, putSent, putListed, putKept, putMarks, putVote};
-ghost use Rattle.boxes.specs.Ready.{flagged};
 use boxes::BoxState;
 use boxes::Core;
 use boxes::Listed;
@@ -73,20 +72,6 @@ pub fn put_sent(x: BoxState, sent: [bool; 64]) -> BoxState
 {
     let mut n = x;
     let mut c = x.core;
-    c.sent = sent;
-    n.core = c;
-    n
-}
-
-// one sent flag set
-pub fn flag(x: BoxState, job: usize) -> BoxState
-    requires { ⌜ job < 64 ⌝ }
-    ensures { λ r. ⌜ r ≡ flagged x job ⌝ }
-{
-    let mut n = x;
-    let mut c = x.core;
-    let mut sent = c.sent;
-    sent[job] = true;
     c.sent = sent;
     n.core = c;
     n
