@@ -115,8 +115,10 @@ fn when_marked(plan: Plan, x: BoxState, job: u8, tray: &mut [u8]) -> Outcome
 {
     if committing::is_enough(plan, x, job) {
         let y = committing::commit(plan, x, job);
-        let h = handing::hand_out(tray, plan, y);
-        let z = h.state;
+        let c = y.core;
+        let h = handing::hand_out(tray, plan, c);
+        let sent = h.sent;
+        let z = changes::put_sent(y, sent);
         return Outcome {
             answer: Answer::Done,
             used: h.used,

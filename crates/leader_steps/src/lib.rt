@@ -160,8 +160,10 @@ pub fn on_newstate_ack(plan: Plan, x: BoxState, b: Ballot, tray: &mut [u8]) -> O
         },
         Answer::Done => {
             let y = leading::lead(x);
-            let h = handing::hand_out(tray, plan, y);
-            let z = h.state;
+            let c = y.core;
+            let h = handing::hand_out(tray, plan, c);
+            let sent = h.sent;
+            let z = changes::put_sent(y, sent);
             Outcome {
                 answer: Answer::Done,
                 used: h.used,
