@@ -1,11 +1,13 @@
 -- Kept ACCEPTs, marks and the vote, over the arrays and numbers alone.
-use Prim.Native.Nat.{ℕ}
-use mathlib.Core.Bool.{Bool, _&&_, _||_}
+use Prim.Native.Nat.{ℕ, zero, suc, _+_, _*_, _/_, _%_, _<_}
+use mathlib.Core.Bool.{Bool, true, _&&_, _||_, and-true, and-assoc}
 use mathlib.Core.List.{List}
-use mathlib.Core.Path.{_≡_, refl}
+use mathlib.Core.Path.{_≡_, refl, ap, _∙_}
+use native.Mathlib.Nat.{add-zero, add-suc, zero-mul, suc-mul}
+use native.Mathlib.Omega.{arith}
 use lib.ListN.{getD}
 use lib.Dec.{eqb}
-use Rattle.laws.specs.Fold.{allBelow}
+use Rattle.laws.specs.Fold.{allBelow, upto-same}
 use Rattle.house.specs.Limits.{mostDistricts, mostJobs}
 use Rattle.house.specs.Pairs.{district, noBallot, noStamp, isNoBallot, isNoStamp, stampOf}
 use Rattle.house.specs.declared.District.{District}
@@ -22,16 +24,46 @@ use Rattle.boxes.specs.declared.BoxState.{BoxState}
 unfoldable pub pairSound : Plan → ℕ → District → Ballot → Stamp → Bool
 pairSound P j d b s = (isNoBallot b && isNoStamp s) || (names P j d && (ballotIn P d b && stampOf d s))
 
--- the pairs of job j for the districts below n, and of all jobs below n
-unfoldable pub pairsBelow : Plan → List Ballot → List Stamp → ℕ → ℕ → Bool
-pairsBelow P bs ss j n = allBelow (λ d. pairSound P j (district d) (getD bs (keptAt j (district d)) noBallot) (getD ss (keptAt j (district d)) noStamp)) n
+-- the pair at a place of the arrays, where job follows job and each has its districts side by side
+unfoldable pub placeSound : Plan → List Ballot → List Stamp → ℕ → Bool
+placeSound P bs ss i = pairSound P (i / mostDistricts) (district (i % mostDistricts)) (getD bs i noBallot) (getD ss i noStamp)
 
-unfoldable pub pairsSound : Plan → List Ballot → List Stamp → ℕ → Bool
-pairsSound P bs ss n = allBelow (λ j. pairsBelow P bs ss j mostDistricts) n
+unfoldable pub placesSound : Plan → List Ballot → List Stamp → ℕ → Bool
+placesSound P bs ss n = allBelow (placeSound P bs ss) n
 
-pub kept-is : (P : Plan) (x : BoxState) → pairsSound P (x .volatile .«kept_ballots») (x .volatile .«kept_stamps») mostJobs ≡ allKeptSound P x
-unfolding pairsSound pairsBelow pairSound allKeptSound jobKeptSound keptSound keptBallot keptStamp
-kept-is P x = refl
+-- a test of m places and then of n more
+all-more : (t : ℕ → Bool) (m n : ℕ) → allBelow t (m + n) ≡ allBelow t m && allBelow (λ i. t (m + i)) n
+unfolding allBelow
+all-more t m zero = rw (add-zero, and-true)
+all-more t m (suc n) = rw (add-suc, all-more t m n) (and-assoc (allBelow t m) (allBelow (λ i. t (m + i)) n) (t (m + n)))
+
+all-same : (s t : ℕ → Bool) (n : ℕ) → ((i : ℕ) → i < n → s i ≡ t i) → allBelow s n ≡ allBelow t n
+unfolding allBelow
+all-same s t n h = upto-same (λ ok i. ok && s i) (λ ok i. ok && t i) true n (λ ok i l. ap (λ (b : Bool). ok && b) (h i l))
+
+-- one flat test is the test, row by row, of each place in the row
+pub all-rows : (t : ℕ → Bool) (m n : ℕ) → allBelow t (m * n) ≡ allBelow (λ j. allBelow (λ d. t (j * n + d)) n) m
+unfolding allBelow
+all-rows t zero n = rw zero-mul
+all-rows t (suc m) n = rw (suc-mul m n, all-more t (m * n) n, all-rows t m n)
+
+-- of the places of a box, the one of a job and a district is theirs
+unfoldable keptPlace : Plan → BoxState → ℕ → Bool
+keptPlace P x i = placeSound P (x .volatile .«kept_ballots») (x .volatile .«kept_stamps») i
+
+kept-place : (P : Plan) (x : BoxState) (j d : ℕ) → d < mostDistricts → keptPlace P x (j * mostDistricts + d) ≡ keptSound P x j (district d)
+unfolding keptPlace placeSound pairSound keptSound keptBallot keptStamp keptAt
+kept-place P x j d h =
+    let q : (j * mostDistricts + d) / mostDistricts ≡ j = omega arith in
+    let r : (j * mostDistricts + d) % mostDistricts ≡ d = omega arith in
+    rw (q, r)
+
+pub kept-is : (P : Plan) (x : BoxState)
+    → placesSound P (x .volatile .«kept_ballots») (x .volatile .«kept_stamps») (mostJobs * mostDistricts) ≡ allKeptSound P x
+unfolding keptPlace placesSound allKeptSound jobKeptSound
+kept-is P x =
+    all-rows (keptPlace P x) mostJobs mostDistricts
+    ∙ all-same _ (jobKeptSound P x) mostJobs (λ j _. all-same _ (λ d. keptSound P x j (district d)) mostDistricts (kept-place P x j))
 
 -- the marks of job j
 unfoldable pub unnamedBelow : Plan → ℕ → ℕ → ℕ → Bool

@@ -1,17 +1,18 @@
 // Whether what a cut forgets is sound: kept ACCEPTs, marks and the vote. The tests stand in specs/Sound.antt of boxes.
 ghost use mathlib.Core.Path.{_≡_};
-ghost use Prim.Native.Nat.{_<_};
 ghost use Rattle.records.specs.Rec.{newleader-ack, carried};
 ghost use Rattle.boxes.specs.Sound.{paperOf, allKeptSound, allMarksSound, unvoted, voteSound};
-ghost use Rattle.sound_volatiles.specs.Pairs.{pairSound, pairsBelow, unnamedBelow, jobMarksSound};
+ghost use Rattle.sound_volatiles.specs.Pairs.{pairSound, unnamedBelow, jobMarksSound};
 use boxes::BoxState;
 use boxes::Vote;
 use house::Ballot;
-use house::BoxNo;
 use house::District;
 use house::Stamp;
 use plans::Plan;
 use records::Record;
+
+// an ACCEPT is kept for each job and district, job by job
+const MOST_KEPT: usize = (house::MOST_JOBS as usize) * (house::MOST_DISTRICTS as usize);
 
 // an ACCEPT kept for a named district, or none
 fn pair_sound(plan: Plan, job: u8, d: District, b: Ballot, s: Stamp) -> bool
@@ -21,29 +22,20 @@ fn pair_sound(plan: Plan, job: u8, d: District, b: Ballot, s: Stamp) -> bool
         | (plans::named(plan, job, d) & (plans::ballot_in(plan, d, b) & house::stamp_of(d, s)))
 }
 
-fn pairs_below(plan: Plan, ballots: [Ballot; 256], stamps: [Stamp; 256], job: u8) -> bool
-    requires { ⌜ job < 64 ⌝ }
-    ensures { λ r. ⌜ r ≡ pairsBelow plan ballots stamps job 4 ⌝ }
-{
-    let mut ok = true;
-    for d in 0..house::MOST_DISTRICTS {
-        let at = (job as usize) * 4 + d as usize;
-        let b = ballots[at];
-        let s = stamps[at];
-        ok = ok & pair_sound(plan, job, District(d), b, s);
-    }
-    ok
-}
-
 pub fn kept_sound(plan: Plan, x: BoxState) -> bool
     ensures { λ r. ⌜ r ≡ allKeptSound plan x ⌝ }
 {
     let v = x.volatile;
     let ballots = v.kept_ballots;
     let stamps = v.kept_stamps;
+    let n = house::MOST_DISTRICTS as usize;
     let mut ok = true;
-    for j in 0..house::MOST_JOBS {
-        ok = ok & pairs_below(plan, ballots, stamps, j);
+    for at in 0..MOST_KEPT {
+        let b = ballots[at];
+        let s = stamps[at];
+        let job = (at / n) as u8;
+        let d = District((at % n) as u8);
+        ok = ok & pair_sound(plan, job, d, b, s);
     }
     ok
 }
