@@ -1,12 +1,11 @@
 // Whether what survives a cut is sound: ranges, ballots, table, flags and list. The tests stand in specs/Sound.antt of boxes.
 ghost use mathlib.Core.Path.{_≡_};
-ghost use Prim.Native.Nat.{_-_, _<_, _≤_};
 ghost use Rattle.boxes.specs.Sound.{rangeSound, ballotsSound, tableSound, sentSound, listSound};
-ghost use Rattle.sound_cores.specs.Lists.{repeats, entrySound, placeSound};
+ghost use Rattle.sound_cores.specs.Lists.{entrySound, placeSound};
 use boxes::BoxState;
 use boxes::Listed;
-use house::BoxNo;
 use house::District;
+use house::Stamp;
 use plans::Plan;
 
 pub fn range_sound(plan: Plan, x: BoxState) -> bool
@@ -54,55 +53,35 @@ pub fn sent_sound(plan: Plan, x: BoxState) -> bool
     ok
 }
 
-// the job stands among the first n of the list
-fn repeated(list: [Listed; 64], job: u8, n: usize) -> bool
-    requires { ⌜ n ≤ 64 ⌝ }
-    ensures { λ r. ⌜ r ≡ repeats list job n ⌝ }
+// an entry behind one of stamp `last`; `again`: its job stands before it too
+fn entry_sound(plan: Plan, home: District, first: bool, last: Stamp, again: bool, e: Listed) -> bool
+    ensures { λ r. ⌜ r ≡ entrySound plan home first last again e ⌝ }
 {
-    let mut some = false;
-    for k in 0..n {
-        let e = list[k];
-        some = some | (e.job == job);
-    }
-    some
-}
-
-// the place before, or the first itself
-fn before(i: usize) -> usize
-    ensures { λ r. ⌜ (r ≡ i - 1) × (r ≤ i) ⌝ }
-{
-    if i == 0 {
-        return 0;
-    }
-    i - 1
-}
-
-fn entry_sound(plan: Plan, home: District, list: [Listed; 64], i: usize) -> bool
-    requires { ⌜ i < 64 ⌝ }
-    ensures { λ r. ⌜ r ≡ entrySound plan home list i ⌝ }
-{
-    let e = list[i];
-    let b = before(i);
-    let last = list[b];
     let s = e.stamp;
-    let t = last.stamp;
     (plans::named(plan, e.job, home) & plans::stamp_named(plan, e.job, s))
-        & (((i == 0) | house::stamp_below(t, s)) & !repeated(list, e.job, i))
+        & ((first | house::stamp_below(last, s)) & !again)
 }
 
-fn place_sound(plan: Plan, home: District, count: u8, list: [Listed; 64], i: u8) -> bool
-    requires { ⌜ i < 64 ⌝ }
-    ensures { λ r. ⌜ r ≡ placeSound plan home count list i ⌝ }
+// a place of the list, or one behind it
+fn place_sound(
+    plan: Plan,
+    home: District,
+    listed: bool,
+    first: bool,
+    last: Stamp,
+    again: bool,
+    e: Listed,
+) -> bool
+    ensures { λ r. ⌜ r ≡ placeSound plan home listed first last again e ⌝ }
 {
-    let at = i as usize;
-    if i < count {
-        return entry_sound(plan, home, list, at);
+    if listed {
+        return entry_sound(plan, home, first, last, again, e);
     }
-    let e = list[at];
     let s = e.stamp;
     (e.job == 0) & house::is_no_stamp(s)
 }
 
+// one pass: a job is flagged where it is listed, and before the first entry stands the first itself
 pub fn list_sound(plan: Plan, x: BoxState) -> bool
     ensures { λ r. ⌜ r ≡ listSound plan x ⌝ }
 {
@@ -110,9 +89,17 @@ pub fn list_sound(plan: Plan, x: BoxState) -> bool
     let own = c.own;
     let list = c.list;
     let home = plans::home_of(plan, own);
+    let first = list[0];
+    let mut last = first.stamp;
+    let mut seen = [false; 256];
     let mut ok = true;
     for i in 0..house::MOST_JOBS {
-        ok = ok & place_sound(plan, home, c.count, list, i);
+        let at = i as usize;
+        let e = list[at];
+        let job = e.job as usize;
+        ok = ok & place_sound(plan, home, i < c.count, i == 0, last, seen[job], e);
+        seen[job] = true;
+        last = e.stamp;
     }
     (c.count <= house::MOST_JOBS) & ok
 }

@@ -1,7 +1,6 @@
 -- `sound_cores::place_sound` meets its contract.
 use Rattle.sound_cores.specs.Lists.{placeSound, noEntry}
 use Rattle.laws.specs.Choice.{pick-true, pick-false}
-use borrow.Author.Tests.{lt-ltb, le-ltb}
 use mathlib.Core.Path.{sym, _∙_}
 use borrow.Author.Needs.{needs}
 use Rattle.sound_cores.proofs.place_sound.Statement.{statement}
@@ -12,22 +11,14 @@ entry-sound-requires c κs = search needs
 
 returns : tie.Need-returns
 unfolding placeSound
-returns c = c .entry-sound .ensures ∙ sym (pick-true _ _ (lt-ltb _ _ (c .before .if1 .taken)))
-
-mul-e : tie.Need-mul-e
-mul-e c = search needs
-
-array-copy-out-e : tie.Need-array-copy-out-e
-array-copy-out-e c = search needs
+returns c = c .entry-sound .ensures ∙ sym (pick-true _ _ (c .before .if1 .taken))
 
 is-no-stamp-requires : tie.Need-is-no-stamp-requires
 is-no-stamp-requires c κs = search needs
 
 returns-2 : tie.Need-returns-2
 unfolding placeSound noEntry
-returns-2 c = rw (c .is-no-stamp .ensures) (sym (pick-false _ _ (le-ltb _ _ (c .before .before .before .before .if1 .left))))
+returns-2 c = rw (c .is-no-stamp .ensures) (sym (pick-false _ _ (c .before .before .before .if1 .left)))
 
 pub place-sound-spec : {M : Type 1} → statement M
-place-sound-spec =
-    tie.close
-    (tie.spec entry-sound-requires returns mul-e array-copy-out-e is-no-stamp-requires returns-2)
+place-sound-spec = tie.close (tie.spec entry-sound-requires returns is-no-stamp-requires returns-2)
