@@ -2,13 +2,14 @@
 use Prim.Native.Nat.{ℕ, zero, suc, _+_, _<_, _≤_}
 use mathlib.Core.Bool.{Bool, true, false, not, _&&_, _||_}
 use mathlib.Core.List.{List, [], _∷_, _++_, append-assoc, append-nil}
-use mathlib.Core.Path.{_≡_, refl, _∙_}
+use mathlib.Core.Path.{_≡_, refl, sym, ap, _∙_}
+use native.Mathlib.Nat.{add-zero}
 use native.Mathlib.Omega.{arith}
 use lib.ListN.{length, getD, length-append}
 use lib.Dec.{leb, eqb}
 use Rattle.laws.specs.Choice.{pick, pick-ap, pick-true, pick-false}
 use Rattle.laws.specs.Fold.{upto, upto-step}
-use Rattle.laws.specs.Tray.{allFor}
+use Rattle.laws.specs.Tray.{allFor, for-step}
 use Rattle.house.specs.Pairs.{boxNo, noBallot}
 use Rattle.house.specs.declared.BoxNo.{BoxNo}
 use Rattle.plans.specs.Plan.{boxesOf, homeOf, sameHome, names}
@@ -57,17 +58,32 @@ meantBelow P r n = upto (λ k p. k + pick (goesTo P r (boxNo p)) 1 0) 0 n
 unfoldable pub sentCount : Plan → Record → ℕ
 sentCount P r = meantBelow P r (boxesOf P)
 
-pub meant-step : (P : Plan) (r : Record) (n : ℕ) → meantBelow P r n + pick (goesTo P r (boxNo n)) 1 0 ≡ meantBelow P r (n + 1)
+meant-step : (P : Plan) (r : Record) (n : ℕ) → meantBelow P r n + pick (goesTo P r (boxNo n)) 1 0 ≡ meantBelow P r (n + 1)
 unfolding meantBelow
 meant-step P r n = upto-step (λ (k p : ℕ). k + pick (goesTo P r (boxNo p)) 1 0) 0 n
 
-pub sent-meant : (P : Plan) (r : Record) (p : ℕ) → goesTo P r (boxNo p) ≡ true → sentTo P r p ≡ encode P (addressed r (boxNo p))
+-- a box that is meant adds its record, another nothing
+pub sent-meant : (P : Plan) (r : Record) (p : ℕ) → goesTo P r (boxNo p) ≡ true
+    → (sentTo P r p ≡ encode P (addressed r (boxNo p))) × (meantBelow P r (p + 1) ≡ meantBelow P r p + 1)
 unfolding sentTo
-sent-meant P r p e = pick-true (encode P (addressed r (boxNo p))) [] e
+sent-meant P r p e = (pick-true (encode P (addressed r (boxNo p))) [] e, sym (meant-step P r p) ∙ rw (pick-true {A = ℕ} 1 0 e))
 
-pub sent-spared : (P : Plan) (r : Record) (p : ℕ) → goesTo P r (boxNo p) ≡ false → sentTo P r p ≡ []
+pub sent-spared : (P : Plan) (r : Record) (p : ℕ) → goesTo P r (boxNo p) ≡ false
+    → (allFor (sentTo P r) (p + 1) ≡ allFor (sentTo P r) p) × (meantBelow P r (p + 1) ≡ meantBelow P r p)
 unfolding sentTo
-sent-spared P r p e = pick-false (encode P (addressed r (boxNo p))) [] e
+sent-spared P r p e = (
+  sym (for-step (sentTo P r) p) ∙ rw (pick-false (encode P (addressed r (boxNo p))) [] e) (append-nil (allFor (sentTo P r) p)),
+  sym (meant-step P r p) ∙ rw (pick-false {A = ℕ} 1 0 e) (add-zero (meantBelow P r p)),
+)
+
+-- a record that is r but for the box that it names goes to the same boxes, and becomes the same when it names another
+pub goes-same : (P : Plan) (r q : Record) (p : BoxNo) → q ≡ addressed r (q .to) → goesTo P q p ≡ goesTo P r p
+unfolding goesTo addressed
+goes-same P r q p e = ap (λ (k : Record). goesTo P k p) e
+
+pub addressed-same : (r q : Record) (p : BoxNo) → q ≡ addressed r (q .to) → addressed q p ≡ addressed r p
+unfolding addressed
+addressed-same r q p e = ap (λ (k : Record). addressed k p) e
 
 -- a list of records is what the struct r writes when it is sent
 pub record Sends (P : Plan) (l : List Rec) (r : Record) : Type 0 where
