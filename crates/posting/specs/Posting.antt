@@ -37,6 +37,10 @@ nextStart P s used at = pick (ltb at used) (at + lengthAt P s at) at
 unfoldable pub startOf : Plan → List ℕ → ℕ → ℕ → ℕ
 startOf P s used k = upto (λ at i. nextStart P s used at) 0 k
 
+-- no walk from within a post to a record whose number can be typed comes further, whatever the bytes
+abbrev pub mostPlace : ℕ
+mostPlace = 100000000000000
+
 -- the bytes of the record that begins at a place, and the box that it is addressed to
 unfoldable pub bytesFrom : Plan → List ℕ → ℕ → List ℕ
 bytesFrom P s at = take (lengthAt P s at) (drop at s)
@@ -54,14 +58,30 @@ pub start-step : (P : Plan) (s : List ℕ) (used k : ℕ) → nextStart P s used
 unfolding startOf
 start-step P s used k = upto-step (λ (at i : ℕ). nextStart P s used at) 0 k
 
+-- so many records on from a place
+abbrev pub walkFrom : Plan → List ℕ → ℕ → ℕ → ℕ → ℕ
+walkFrom P s used from k = upto (λ at i. nextStart P s used at) from k
+
+pub walk-step : (P : Plan) (s : List ℕ) (used from k : ℕ) → nextStart P s used (walkFrom P s used from k) ≡ walkFrom P s used from (k + 1)
+walk-step P s used from k = upto-step (λ (at i : ℕ). nextStart P s used at) from k
+
+-- so many records on, and then k more
+pub walk-more : (P : Plan) (s : List ℕ) (used from i k : ℕ) → walkFrom P s used (walkFrom P s used from i) k ≡ walkFrom P s used from (i + k)
+walk-more P s used from i zero = let e : i ≡ i + 0 = omega arith in ap (walkFrom P s used from) e
+walk-more P s used from i (suc k) =
+    let e : (i + k) + 1 ≡ i + suc k = omega arith in
+    ap (nextStart P s used) (walk-more P s used from i k) ∙ walk-step P s used from (i + k) ∙ ap (walkFrom P s used from) e
+
+-- k records on from record i
+pub start-more : (P : Plan) (s : List ℕ) (used i k : ℕ) → walkFrom P s used (startOf P s used i) k ≡ startOf P s used (i + k)
+unfolding startOf
+start-more P s used i k = walk-more P s used 0 i k
+
 -- behind the last record the walk stays
-pub start-stays : (P : Plan) (s : List ℕ) (used i k : ℕ) → used ≤ startOf P s used i → startOf P s used (i + k) ≡ startOf P s used i
+pub walk-stays : (P : Plan) (s : List ℕ) (used at k : ℕ) → used ≤ at → walkFrom P s used at k ≡ at
 unfolding nextStart
-start-stays P s used i zero h = ap (startOf P s used) (omega arith)
-start-stays P s used i (suc k) h =
-    let e : i + suc k ≡ (i + k) + 1 = omega arith in
-    ap (startOf P s used) e ∙ sym (start-step P s used (i + k)) ∙ ap (nextStart P s used) (start-stays P s used i k h)
-    ∙ pick-false (startOf P s used i + lengthAt P s (startOf P s used i)) (startOf P s used i) (le-ltb (startOf P s used i) used h)
+walk-stays P s used at zero h = refl
+walk-stays P s used at (suc k) h = ap (nextStart P s used) (walk-stays P s used at k h) ∙ pick-false (at + lengthAt P s at) at (le-ltb at used h)
 
 -- bytes written behind what is used
 pub put-behind : (s bs m : List ℕ) (n : ℕ) → n ≤ length s → m ≡ onto bs (midOf n (length s - n) s) → putMid n (length s - n) s m ≡ take n s ++ onto bs (drop n s)
