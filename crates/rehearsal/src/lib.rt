@@ -18,9 +18,12 @@ use house::BoxNo;
 use plans::Plan;
 use records::Answer;
 
+// so many boxes has the largest plan
+pub const MOST_BOXES: usize = 12;
+
 // a night: the boxes, and how many bytes of the post hold records
 pub struct Night {
-    pub boxes: [BoxState; 12],
+    pub boxes: [BoxState; MOST_BOXES],
     pub used: usize,
 }
 
@@ -235,21 +238,14 @@ pub fn rehearse(plan: Plan, night: Night, order: Order, post: &mut [u8]) -> Turn
 pub fn fresh_night() -> Night
     ensures { λ n. ⌜ NightFresh n ⌝ }
 {
+    let none = boxes::fresh_box(BoxNo(0));
+    let mut boxes = [none; MOST_BOXES];
+    for at in 0..MOST_BOXES {
+        let x = boxes::fresh_box(BoxNo(at as u8));
+        boxes[at] = x;
+    }
     Night {
-        boxes: [
-            boxes::fresh_box(BoxNo(0)),
-            boxes::fresh_box(BoxNo(1)),
-            boxes::fresh_box(BoxNo(2)),
-            boxes::fresh_box(BoxNo(3)),
-            boxes::fresh_box(BoxNo(4)),
-            boxes::fresh_box(BoxNo(5)),
-            boxes::fresh_box(BoxNo(6)),
-            boxes::fresh_box(BoxNo(7)),
-            boxes::fresh_box(BoxNo(8)),
-            boxes::fresh_box(BoxNo(9)),
-            boxes::fresh_box(BoxNo(10)),
-            boxes::fresh_box(BoxNo(11)),
-        ],
+        boxes: boxes,
         used: 0,
     }
 }
