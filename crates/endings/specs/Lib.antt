@@ -1,4 +1,5 @@
 -- What the report at the end says of a night, in two ways: as the code finds it, and as document 01 puts it.
 pub mod Endings
+pub mod Holders
 pub mod Laws
 pub mod Says

@@ -1,9 +1,10 @@
 // What the report at the end says of a night: a box's list, where a job is committed, whether it is finished.
-// What each function means stands in specs/Endings.antt.
+// What each function means stands in specs/Endings.antt, and of a job's holders in specs/Holders.antt.
 ghost use mathlib.Core.Path.{_≡_};
-ghost use Prim.Native.Nat.{_+_, _≤_, _<_};
-ghost use Rattle.rehearsal.specs.Night.{boxIn};
-ghost use Rattle.endings.specs.Endings.{jobsOf, shownOf, firstOf, firstBelow, listedIn, doneIn, finished};
+ghost use Prim.Native.Nat.{ℕ, _+_, _*_, _≤_, _<_};
+ghost use Rattle.plans.specs.Plan.{sizeOf};
+ghost use Rattle.endings.specs.Endings.{jobsOf, shownOf, firstOf, listedIn, doneIn, finished};
+ghost use Rattle.endings.specs.Holders.{Holders, withHolder, Ended};
 use boxes::BoxState;
 use house::BoxNo;
 use house::District;
@@ -19,6 +20,12 @@ const COMMITTED: u8 = 3;
 pub struct Committed {
     pub found: bool,
     pub stamp: Stamp,
+}
+
+// what the boxes say of a job: where it is committed first, and which boxes have it on their lists, as marks
+pub struct JobEnd {
+    pub first: Committed,
+    pub holders: u32,
 }
 
 // the jobs of a box's list, place by place
@@ -46,14 +53,6 @@ pub fn shown_of(x: BoxState) -> usize
     n as usize
 }
 
-pub fn box_in(night: Night, p: BoxNo) -> BoxState
-    requires { ⌜ p .0 < 12 ⌝ }
-    ensures { λ r. ⌜ r ≡ boxIn night (p .0) ⌝ }
-{
-    let at = p.0 as usize;
-    night.boxes[at]
-}
-
 // what was found before, or the row's stamp if the row is committed
 fn first_of(first: Committed, row: Row) -> Committed
     ensures { λ r. ⌜ r ≡ firstOf first row ⌝ }
@@ -71,55 +70,71 @@ fn first_of(first: Committed, row: Row) -> Committed
     first
 }
 
-// the global stamp at the lowest of the first n boxes that has the job committed
-pub fn first_below(night: Night, job: u8, n: u8) -> Committed
-    requires { ⌜ n ≤ 12 ⌝ }
-    ensures { λ r. ⌜ r ≡ firstBelow night job n ⌝ }
+// the holders, and box p if it has the job on its list
+fn with_holder(holders: u32, p: BoxNo, listed: bool) -> u32
+    ensures { λ r. ⌜ r ≡ withHolder holders p listed ⌝ }
 {
+    if listed {
+        return marks::mark(holders, p);
+    }
+    holders
+}
+
+// what the first n boxes say of a job
+pub fn job_end(night: Night, job: u8, n: u8) -> JobEnd
+    requires { ⌜ n ≤ 12 ⌝ }
+    ensures { λ r. ⌜ Ended night job n r ⌝ }
+{
+    let boxes = night.boxes;
     let mut first = Committed {
         found: false,
         stamp: house::no_stamp(),
     };
+    let mut holders = marks::no_marks();
     for p in 0..n {
-        let x = box_in(night, BoxNo(p));
+        let at = p as usize;
+        let x = boxes[at];
         first = first_of(first, looking::row_at(x, job));
+        holders = with_holder(holders, BoxNo(p), looking::on_list(x, job));
     }
-    first
+    JobEnd {
+        first: first,
+        holders: holders,
+    }
 }
 
-// the job is on the list of one of `size` boxes from `low` on
-fn listed_in(night: Night, job: u8, low: BoxNo, size: u8) -> bool
+// one of `size` boxes from `low` on holds the job
+fn listed_in(holders: u32, low: BoxNo, size: u8) -> bool
     requires { ⌜ low .0 + size ≤ 12 ⌝ }
-    ensures { λ r. ⌜ r ≡ listedIn night job (low .0) size ⌝ }
+    ensures { λ r. ⌜ ((night : Night) (j : ℕ) → Holders night j (low .0 + size) holders → r ≡ listedIn night j (low .0) size) ⌝ }
 {
     let mut found = false;
     for i in 0..size {
         let p = low.0 + i;
-        let x = box_in(night, BoxNo(p));
-        found = found | looking::on_list(x, job);
+        found = found | marks::has_mark(holders, BoxNo(p));
     }
     found
 }
 
 // a district is done with the job if the job doesn't name it, or is on the list of one of its boxes
-fn done_in(plan: Plan, night: Night, job: u8, d: District) -> bool
+fn done_in(plan: Plan, job: u8, holders: u32, d: District) -> bool
     requires { ⌜ d .0 < 4 ⌝ }
-    ensures { λ r. ⌜ r ≡ doneIn plan night job (d .0) ⌝ }
+    ensures { λ r. ⌜ ((night : Night) → Holders night job (d .0 * sizeOf plan + sizeOf plan) holders → r ≡ doneIn plan night job (d .0)) ⌝ }
 {
     let size = plans::size_of(plan);
     let named = plans::named(plan, job, d);
     let low = d.0 * size;
-    !named | listed_in(night, job, BoxNo(low), size)
+    !named | listed_in(holders, BoxNo(low), size)
 }
 
 // every district is done with the job
-pub fn finished_below(plan: Plan, night: Night, job: u8, n: u8) -> bool
+pub fn finished_below(plan: Plan, job: u8, holders: u32, n: u8) -> bool
     requires { ⌜ n ≤ 4 ⌝ }
-    ensures { λ r. ⌜ r ≡ finished plan night job n ⌝ }
+    ensures { λ r. ⌜ ((night : Night) → Holders night job (n * sizeOf plan) holders → r ≡ finished plan night job n) ⌝ }
 {
     let mut ok = true;
     for d in 0..n {
-        ok = ok & done_in(plan, night, job, District(d));
+        ok = ok & done_in(plan, job, holders, District(d));
     }
     ok
 }

@@ -1,8 +1,8 @@
 -- `endings::done_in` meets its contract.
-use mathlib.Core.Path.{_≡_}
 use Rattle.endings.specs.Endings.{doneIn}
 use Rattle.plans.specs.Plan.{sizeOf}
 use native.Mathlib.Omega.{arith}
+use mathlib.Core.Path.{_≡_}
 use borrow.Author.Needs.{needs}
 use Rattle.endings.proofs.done_in.Statement.{statement}
 use Rattle.endings.proofs.done_in.Tie as tie
@@ -23,7 +23,10 @@ listed-in-requires c κs = let s : c .before .before .size-of .result ≡ 3 = c 
 
 returns : tie.Need-returns
 unfolding doneIn
-returns c = rw (c .listed-in .ensures, c .before .before .named .ensures, c .before .before .before .size-of .ensures .0)
+returns c =
+    let a = c .before .before .before .before .args in
+    let s = c .before .before .before .size-of .ensures .0 in
+    λ night h. rw (c .listed-in .ensures night (a .job) (rw s h), c .before .before .named .ensures, s)
 
 pub done-in-spec : {M : Type 1} → statement M
 done-in-spec =

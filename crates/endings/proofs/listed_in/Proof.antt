@@ -1,6 +1,8 @@
 -- `endings::listed_in` meets its contract.
 use Rattle.endings.specs.Endings.{listedIn}
+use Rattle.endings.specs.Holders.{Holders}
 use Rattle.rehearsal.specs.Night.{boxIn}
+use Rattle.rehearsal.specs.declared.Night.{Night}
 use Rattle.boxes.specs.Box.{onList}
 use Rattle.laws.specs.Fold.{someBelow, some-step}
 use Prim.Native.Nat.{ℕ, _+_, _-_, _≤_}
@@ -11,23 +13,20 @@ use Rattle.endings.proofs.listed_in.Statement.{statement}
 use Rattle.endings.proofs.listed_in.Tie as tie
 
 abbrev Inv-loop : tie.InvT-loop
-Inv-loop night job low size found₀ i₀ found i = (i ≤ size) × (found ≡ listedIn night job (low .0) i)
+Inv-loop holders low size found₀ i₀ found i = (i ≤ size) × ((night : Night) (j : ℕ) → Holders night j (low .0 + i) holders → found ≡ listedIn night j (low .0) i)
 
 abbrev μ-loop : tie.MeasureT-loop
-μ-loop night job low size found₀ i₀ found i = size - i
+μ-loop holders low size found₀ i₀ found i = size - i
 
 loop-holds : tie.Need-loop-holds Inv-loop μ-loop
 unfolding listedIn someBelow
-loop-holds c = (search needs, refl)
+loop-holds c = (search needs, λ night j h. refl)
 
 add-p : tie.Need-add-p Inv-loop μ-loop
 add-p c = search needs
 
-box-in-requires : tie.Need-box-in-requires Inv-loop μ-loop
-box-in-requires c κs = search needs
-
-on-list-requires : tie.Need-on-list-requires Inv-loop μ-loop
-on-list-requires c κs = search needs
+has-mark-requires : tie.Need-has-mark-requires Inv-loop μ-loop
+has-mark-requires c κs = search needs
 
 add-i : tie.Need-add-i Inv-loop μ-loop
 add-i c = search needs
@@ -38,16 +37,21 @@ loop-less c = search needs
 loop-again : tie.Need-loop-again Inv-loop μ-loop
 unfolding listedIn
 loop-again c =
-    let a = c .before .before .before .before .before .args in
-    let l = c .before .before .before .before .loop in
-    (omega arith, rw (l .inv .1, c .on-list .ensures, c .before .box-in .ensures) (some-step (λ (i : ℕ). onList (boxIn (a .night) (a .low .0 + i)) (a .job)) (l .i)))
+    let a = c .before .before .before .before .args in
+    let l = c .before .before .before .loop in (
+      omega arith,
+      λ night j h.
+          let e = l .inv .1 night j (λ p b. h p (omega arith)) in
+          let m = h (a .low .0 + l .i) (omega arith) in
+          rw (e, c .has-mark .ensures, m) (some-step (λ (i : ℕ). onList (boxIn night (a .low .0 + i)) j) (l .i)),
+    )
 
 returns : tie.Need-returns Inv-loop μ-loop
 returns c =
     let a = c .before .before .args in
     let l = c .before .loop in
     let e : l .i ≡ a .size = omega arith in
-    l .inv .1 ∙ ap (listedIn (a .night) (a .job) (a .low .0)) e
+    λ night j h. l .inv .1 night j (λ p b. h p (omega arith)) ∙ ap (listedIn night j (a .low .0)) e
 
 pub listed-in-spec : {M : Type 1} → statement M
 listed-in-spec =
@@ -57,8 +61,7 @@ listed-in-spec =
     μ-loop
     loop-holds
     add-p
-    box-in-requires
-    on-list-requires
+    has-mark-requires
     add-i
     loop-less
     loop-again
