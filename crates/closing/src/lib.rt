@@ -5,37 +5,39 @@ ghost use mathlib.Core.Bool.{true};
 ghost use Prim.Native.Nat.{_*_, _≤_, _<_};
 ghost use lib.ListN.{length};
 ghost use Rattle.laws.specs.Tray.{onto, allFor};
-ghost use Rattle.plans.specs.Plan.{planSound};
-ghost use Rattle.report.specs.Report.{boxMost, jobMost};
+ghost use Rattle.plans.specs.Plan.{boxesOf, planSound};
+ghost use Rattle.report.specs.Report.{boxText, boxMost, jobMost};
+ghost use Rattle.endings.specs.Endings.{jobsOf, shownOf};
+ghost use Rattle.endings.specs.Holders.{Ended};
 ghost use Rattle.closing.specs.Closing.{boxReport, jobReport, soundReport, reportMost};
 ghost use Rattle.closing.specs.Promise.{Closed};
+use boxes::BoxState;
+use endings::JobEnd;
 use house::BoxNo;
 use plans::Plan;
 use rehearsal::Night;
 
 // the room of the report
-pub const REPORT_ROOM: usize = 12 * report::BOX_ROOM + 64 * report::JOB_ROOM;
+pub const REPORT_ROOM: usize = rehearsal::MOST_BOXES * report::BOX_ROOM + 64 * report::JOB_ROOM;
 
 // the line of a box
-fn put_box(night: Night, p: BoxNo, t: &mut [u8]) -> usize
+fn put_box(p: BoxNo, x: BoxState, t: &mut [u8]) -> usize
     requires { ⌜ (p .0 < 12) × (boxMost ≤ length (now t)) ⌝ }
-    ensures { λ r. ⌜ (r ≤ boxMost) × (r ≡ length (boxReport night (p .0))) × (now (t .exit) ≡ onto (boxReport night (p .0)) (now (t .entry))) ⌝ }
+    ensures { λ r. ⌜ (r ≤ boxMost) × (r ≡ length (boxText (p .0) (jobsOf x) (shownOf x))) × (now (t .exit) ≡ onto (boxText (p .0) (jobsOf x) (shownOf x)) (now (t .entry))) ⌝ }
 {
-    let x = endings::box_in(night, p);
     let list = endings::jobs_of(x);
     let count = endings::shown_of(x);
     report::box_line(p, list, count, t)
 }
 
-// the line of a job
-fn put_job(plan: Plan, night: Night, job: u8, t: &mut [u8]) -> usize
+// the line of a job, from what the boxes say of it
+fn put_job(plan: Plan, job: u8, end: JobEnd, t: &mut [u8]) -> usize
     requires { ⌜ (planSound plan ≡ true) × (jobMost ≤ length (now t)) ⌝ }
-    ensures { λ r. ⌜ (r ≤ jobMost) × (r ≡ length (jobReport plan night job)) × (now (t .exit) ≡ onto (jobReport plan night job) (now (t .entry))) ⌝ }
+    ensures { λ r. ⌜ (r ≤ jobMost) × ((night : Night) → Ended night job (boxesOf plan) end → (r ≡ length (jobReport plan night job)) × (now (t .exit) ≡ onto (jobReport plan night job) (now (t .entry)))) ⌝ }
 {
-    let n = plans::boxes_of(plan) as u8;
-    let c = endings::first_below(night, job, n);
+    let c = end.first;
     let stamp = c.stamp;
-    let finished = endings::finished_below(plan, night, job, plan.districts);
+    let finished = endings::finished_below(plan, job, end.holders, plan.districts);
     report::job_line(job, c.found, stamp, finished, t)
 }
 
@@ -44,9 +46,12 @@ fn put_boxes(night: Night, n: u8, t: &mut [u8]) -> usize
     requires { ⌜ (n ≤ 12) × (12 * boxMost ≤ length (now t)) ⌝ }
     ensures { λ r. ⌜ (r ≤ 12 * boxMost) × (r ≡ length (allFor (boxReport night) n)) × (now (t .exit) ≡ onto (allFor (boxReport night) n) (now (t .entry))) ⌝ }
 {
+    let boxes = night.boxes;
     let mut used = 0;
     for p in 0..n {
-        let more = put_box(night, BoxNo(p), &mut t[used..]);
+        let at = p as usize;
+        let x = boxes[at];
+        let more = put_box(BoxNo(p), x, &mut t[used..]);
         used += more;
     }
     used
@@ -57,9 +62,11 @@ fn put_jobs(plan: Plan, night: Night, n: u8, t: &mut [u8]) -> usize
     requires { ⌜ (planSound plan ≡ true) × (n ≤ 64) × (64 * jobMost ≤ length (now t)) ⌝ }
     ensures { λ r. ⌜ (r ≤ 64 * jobMost) × (r ≡ length (allFor (jobReport plan night) n)) × (now (t .exit) ≡ onto (allFor (jobReport plan night) n) (now (t .entry))) ⌝ }
 {
+    let boxes = plans::boxes_of(plan) as u8;
     let mut used = 0;
     for j in 0..n {
-        let more = put_job(plan, night, j, &mut t[used..]);
+        let end = endings::job_end(night, j, boxes);
+        let more = put_job(plan, j, end, &mut t[used..]);
         used += more;
     }
     used

@@ -1,25 +1,44 @@
 -- `closing::put_boxes` meets its contract.
 use Rattle.closing.specs.Closing.{boxReport}
-use Rattle.report.specs.Report.{boxMost}
+use Rattle.endings.specs.Endings.{jobsOf, shownOf}
+use Rattle.endings.specs.Laws.{any-default, withBoxes}
+use Rattle.rehearsal.specs.Night.{boxIn}
+use Rattle.boxes.specs.declared.BoxState.{BoxState}
+use Rattle.report.specs.Report.{boxText, boxMost}
 use Rattle.laws.specs.Tray.{onto, onto-nil, then, allFor, for-step}
+use Rattle.looking.specs.Long.{long-map}
 use lib.ListN.{length}
 use native.Mathlib.Omega.{arith}
-use Prim.Native.Nat.{ℕ, _-_, _*_, _≤_}
+use Prim.Native.Nat.{ℕ, _-_, _*_, _≤_, _<_}
 use mathlib.Core.List.{List}
 use mathlib.Core.Path.{_≡_, refl, sym, ap, _∙_}
 use borrow.Author.Needs.{needs}
+use borrow.Rule.Slice.PartMut.{midOf}
 use Rattle.closing.proofs.put_boxes.Statement.{statement}
 use Rattle.closing.proofs.put_boxes.Tie as tie
 
+-- the lines of the first p of these boxes
+abbrev lines : List BoxState → ℕ → List ℕ
+lines boxes p = allFor (boxReport (withBoxes boxes)) p
+
 abbrev Inv-loop : tie.InvT-loop
-Inv-loop night n t₀ used₀ p₀ t used p = (p ≤ n) × (used ≤ boxMost * p) × (length t ≡ length t₀) × (used ≡ length (allFor (boxReport night) p)) × (t ≡ onto (allFor (boxReport night) p) t₀)
+Inv-loop n t₀ boxes used₀ p₀ t used p = (p ≤ n) × (used ≤ boxMost * p) × (length t ≡ length t₀) × (used ≡ length (lines boxes p)) × (t ≡ onto (lines boxes p) t₀)
 
 abbrev μ-loop : tie.MeasureT-loop
-μ-loop night n t₀ used₀ p₀ t used p = n - p
+μ-loop n t₀ boxes used₀ p₀ t used p = n - p
 
 loop-holds : tie.Need-loop-holds Inv-loop μ-loop
 unfolding allFor
 loop-holds c = (search needs, search needs, refl, refl, sym (onto-nil _))
+
+cast-at : tie.Need-cast-at Inv-loop μ-loop
+cast-at c = search needs
+
+mul-x : tie.Need-mul-x Inv-loop μ-loop
+mul-x c = search needs
+
+array-copy-out-x : tie.Need-array-copy-out-x Inv-loop μ-loop
+array-copy-out-x c = search needs
 
 sub-put-box : tie.Need-sub-put-box Inv-loop μ-loop
 sub-put-box c = search needs
@@ -43,23 +62,35 @@ loop-less : tie.Need-loop-less Inv-loop μ-loop
 loop-less c = search needs
 
 loop-again : tie.Need-loop-again Inv-loop μ-loop
+unfolding boxReport boxIn
 loop-again c =
-    let a = c .before .before .before .before .before .before .before .args in
-    let l = c .before .before .before .before .before .loop in
+    let b = c .before .before .before .before .before .before .before .before .before in
+    let a = b .args in
+    let l = c .before .before .before .before .before .before .loop in
     let q = c .before .before .put-box in
-    let s = for-step (boxReport (a .night)) (l .p) in
-    let k = then (allFor (boxReport (a .night)) (l .p)) (boxReport (a .night) (l .p)) (a .t .now) (l .t) (q .last .1 .1 .0) (l .used) (q .result) (l .inv .3) (l .inv .4) (q .ensures .1) (q .ensures .2) in
+    let N = withBoxes (a .night .boxes) in
+    let long : length (a .night .boxes) ≡ 12 = long-map _ _ _ (a .night .boxes) 12 (b .good .0 .1 .1 .0 .1 .0 .1) in
+    let low : l .p < length (a .night .boxes) = rw long (omega (arith, b .pre .0)) in
+    let v = ap (λ (x : BoxState). boxText (l .p) (jobsOf x) (shownOf x)) (any-default (a .night .boxes) (l .p) _ _ low) in
+    let s = for-step (boxReport N) (l .p) in
+    let k =
+    then (lines (a .night .boxes) (l .p)) (boxReport N (l .p)) (a .t .now) (l .t) (q .last .1 .1 .0) (l .used) (q .result) (l .inv .3) (l .inv .4)
+    (q .ensures .1 ∙ ap length v)
+    (q .ensures .2 ∙ ap (λ (bs : List ℕ). onto bs (midOf (l .used) (length (l .t) - l .used) (l .t))) v) in
     (omega arith, omega (arith, q .ensures .0), c .before .t .given .1 ∙ l .inv .2, k .0 ∙ ap length s, k .1 ∙ ap (λ (bs : List ℕ). onto bs (a .t .now)) s)
 
 same-length : tie.Need-same-length Inv-loop μ-loop
 same-length c = search needs
 
 returns : tie.Need-returns Inv-loop μ-loop
+unfolding boxReport boxIn
 returns c =
-    let a = c .before .before .before .args in
+    let a = c .before .before .before .before .args in
     let l = c .before .loop in
     let e : l .p ≡ a .n = omega arith in
-    (omega (arith, c .before .before .before .pre .0), l .inv .3 ∙ ap (λ (n : ℕ). length (allFor (boxReport (a .night)) n)) e, l .inv .4 ∙ ap (λ (n : ℕ). onto (allFor (boxReport (a .night)) n) (a .t .now)) e)
+    let u = l .inv .3 ∙ ap (λ (n : ℕ). length (lines (a .night .boxes) n)) e in
+    let w = l .inv .4 ∙ ap (λ (n : ℕ). onto (lines (a .night .boxes) n) (a .t .now)) e in
+    (omega (arith, c .before .before .before .before .pre .0), u, w)
 
 pub put-boxes-spec : {M : Type 1} → statement M
 put-boxes-spec =
@@ -68,6 +99,9 @@ put-boxes-spec =
     Inv-loop
     μ-loop
     loop-holds
+    cast-at
+    mul-x
+    array-copy-out-x
     sub-put-box
     part-put-box-start
     part-put-box-end

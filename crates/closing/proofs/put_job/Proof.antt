@@ -1,13 +1,16 @@
 -- `closing::put_job` meets its contract.
 use Rattle.closing.specs.Closing.{jobReport}
 use Rattle.endings.specs.declared.Committed.{Committed}
-use Rattle.endings.specs.Endings.{firstBelow}
+use Rattle.endings.specs.declared.JobEnd.{JobEnd}
+use Rattle.endings.specs.Endings.{firstBelow, finished}
+use Rattle.endings.specs.Holders.{Ended}
+use Rattle.rehearsal.specs.declared.Night.{Night}
 use Rattle.report.specs.Report.{jobText}
-use Rattle.plans.specs.Says.{plan-says, boxes-most}
+use Rattle.plans.specs.Says.{plan-says}
 use Rattle.plans.specs.Plan.{boxesOf}
+use Rattle.plans.specs.declared.Plan.{Plan}
 use Rattle.laws.specs.Tray.{onto}
 use lib.ListN.{length}
-use native.Mathlib.Omega.{arith}
 use Prim.Native.Nat.{ℕ}
 use mathlib.Core.Bool.{Bool}
 use mathlib.Core.List.{List}
@@ -16,17 +19,17 @@ use borrow.Author.Needs.{needs}
 use Rattle.closing.proofs.put_job.Statement.{statement}
 use Rattle.closing.proofs.put_job.Tie as tie
 
-boxes-of-requires : tie.Need-boxes-of-requires
-boxes-of-requires c κs = search needs
+-- the line of job j, committed as x says
+abbrev text : ℕ → Committed → Bool → List ℕ
+text j x finished = jobText j (x .found) (x .stamp .time) (x .stamp .district .0) finished
 
-cast-n : tie.Need-cast-n
-cast-n c = let a = c .before .before .args in omega (arith, c .boxes-of .ensures .0, boxes-most (a .plan) (c .before .before .pre .0))
-
-first-below-requires : tie.Need-first-below-requires
-first-below-requires c κs = let a = c .before .before .args in omega (arith, c .boxes-of .ensures .0, boxes-most (a .plan) (c .before .before .pre .0))
+line-is : (P : Plan) (night : Night) (j : ℕ) (e : JobEnd) (y : Bool) → Ended night j (boxesOf P) e → y ≡ finished P night j (P .districts)
+    → text j (e .first) y ≡ jobReport P night j
+unfolding jobReport
+line-is P night j e y d f = ap (λ (x : Committed). text j x y) (d .first-is) ∙ ap (text j (firstBelow night j (boxesOf P))) f
 
 finished-below-requires : tie.Need-finished-below-requires
-finished-below-requires c κs = plan-says (c .before .before .before .before .args .plan) (c .before .before .before .before .pre .0) .districts-most
+finished-below-requires c κs = plan-says (c .before .before .before .args .plan) (c .before .before .before .pre .0) .districts-most
 
 job-line-requires : tie.Need-job-line-requires
 job-line-requires c κs = search needs
@@ -35,25 +38,14 @@ same-length : tie.Need-same-length
 same-length c = search needs
 
 returns : tie.Need-returns
-unfolding jobReport
+unfolding boxesOf
 returns c =
-    let a = c .before .before .before .before .before .before .before .before .before .args in
+    let a = c .before .before .before .before .before .before .before .before .args in
     let q = c .before .before .job-line in
-    let f = c .before .before .before .before .before .before .first-below in
-    let e : f .result ≡ firstBelow (a .night) (a .job) (boxesOf (a .plan)) = f .ensures ∙ ap (firstBelow (a .night) (a .job)) (c .before .before .before .before .before .before .before .boxes-of .ensures .0) in
-    let v =
-    ap (λ (x : Committed). jobText (a .job) (x .found) (x .stamp .time) (x .stamp .district .0) (c .before .before .before .before .finished-below .result)) e
-    ∙ ap (λ (y : Bool). jobText (a .job) (firstBelow (a .night) (a .job) (boxesOf (a .plan)) .found) (firstBelow (a .night) (a .job) (boxesOf (a .plan)) .stamp .time) (firstBelow (a .night) (a .job) (boxesOf (a .plan)) .stamp .district .0) y) (c .before .before .before .before .finished-below .ensures) in
-    (q .ensures .0, q .ensures .1 ∙ ap length v, q .ensures .2 ∙ ap (λ (l : List ℕ). onto l (a .t .now)) v)
+    let f = c .before .before .before .before .finished-below in
+    let v : (night : Night) → Ended night (a .job) (boxesOf (a .plan)) (a .end) → text (a .job) (a .end .first) (f .result) ≡ jobReport (a .plan) night (a .job) =
+    λ night d. line-is (a .plan) night (a .job) (a .end) (f .result) d (f .ensures night (d .holders-are)) in
+    (q .ensures .0, λ night d. (q .ensures .1 ∙ ap length (v night d), q .ensures .2 ∙ ap (λ (l : List ℕ). onto l (a .t .now)) (v night d)))
 
 pub put-job-spec : {M : Type 1} → statement M
-put-job-spec =
-    tie.close
-    (tie.spec
-    boxes-of-requires
-    cast-n
-    first-below-requires
-    finished-below-requires
-    job-line-requires
-    same-length
-    returns)
+put-job-spec = tie.close (tie.spec finished-below-requires job-line-requires same-length returns)
