@@ -1,13 +1,10 @@
 // Kind 3. What each function means stands in specs/Multicast.antt and specs/Join.antt of the crate boxes.
 ghost use mathlib.Core.Path.{_≡_};
-ghost use mathlib.Core.Bool.{true, not, _&&_};
 ghost use Prim.Native.Nat.{_<_};
-ghost use lib.Dec.{eqb};
-ghost use Rattle.plans.specs.Plan.{names};
-ghost use Rattle.marks.specs.Marks.{hasMark, marked};
-ghost use Rattle.boxes.specs.Box.{isLeader, homeIn, rowAt, marksAt, putMarks};
+ghost use Rattle.marks.specs.Marks.{marked};
+ghost use Rattle.boxes.specs.Box.{marksAt, putMarks};
 ghost use Rattle.boxes.specs.Multicast.{agreeBelow, agree, enough, committed};
-ghost use Rattle.boxes.specs.Join.{inOrder};
+ghost use Rattle.boxes.specs.Join.{judgedAcceptAck};
 use boxes::BoxState;
 use house::Ballot;
 use house::BoxNo;
@@ -47,7 +44,7 @@ pub fn decide_accept_ack(
     job: u8,
     ballots: [Ballot; 4],
 ) -> Answer
-    ensures { λ r. ⌜ r ≡ inOrder (names plan job (homeIn plan x)) (isLeader (x .core .status)) (agree plan x job ballots) (not (eqb (rowAt x job .phase) 3) && not (hasMark (marksAt x job) from)) true ⌝ }
+    ensures { λ r. ⌜ r ≡ judgedAcceptAck plan x from job ballots ⌝ }
 {
     let c = x.core;
     let status = c.status;

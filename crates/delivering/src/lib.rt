@@ -1,13 +1,12 @@
 // Kind 4, and what a retry tests. What each function means stands in specs/Multicast.antt and specs/Join.antt of the crate boxes.
 ghost use mathlib.Core.Path.{_≡_};
-ghost use mathlib.Core.Bool.{true, not, _&&_};
+ghost use mathlib.Core.Bool.{true};
 ghost use Prim.Native.Nat.{_<_};
-ghost use Rattle.house.specs.Pairs.{sameBallot, stampLt};
 ghost use Rattle.plans.specs.Plan.{names};
-ghost use Rattle.boxes.specs.Box.{isRecovering, homeIn, lastStamp, onList};
+ghost use Rattle.boxes.specs.Box.{homeIn};
 ghost use Rattle.boxes.specs.Multicast.{delivered};
 ghost use Rattle.boxes.specs.Ready.{isOpen};
-ghost use Rattle.boxes.specs.Join.{inOrder};
+ghost use Rattle.boxes.specs.Join.{inOrder, judgedDeliver};
 use boxes::BoxState;
 use house::Ballot;
 use house::Row;
@@ -17,7 +16,7 @@ use records::Answer;
 
 // 4 DELIVER: not recovering; ballot is cballot; stamp above the last delivered and job not on the list
 pub fn decide_deliver(plan: Plan, x: BoxState, job: u8, b: Ballot, global: Stamp) -> Answer
-    ensures { λ r. ⌜ r ≡ inOrder (names plan job (homeIn plan x)) (not (isRecovering (x .core .status))) (sameBallot b (x .core .cballot)) (stampLt (lastStamp x) global && not (onList x job)) true ⌝ }
+    ensures { λ r. ⌜ r ≡ judgedDeliver plan x job b global ⌝ }
 {
     let c = x.core;
     let status = c.status;

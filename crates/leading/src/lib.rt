@@ -1,16 +1,16 @@
 // Kinds 7 and 8 and the order stand: the new state is handed on and taken, and a box leads. What each function means stands in
 // specs/Leaders.antt, specs/Orders.antt and specs/Join.antt of the crate boxes.
 ghost use mathlib.Core.Path.{_≡_};
-ghost use mathlib.Core.Bool.{true, _&&_};
+ghost use mathlib.Core.Bool.{true};
 ghost use Prim.Native.Nat.{_<_};
 ghost use lib.Dec.{ltb};
 ghost use Rattle.house.specs.Limits.{mostNumber, noJob};
-ghost use Rattle.house.specs.Pairs.{noStamp, sameBallot};
+ghost use Rattle.house.specs.Pairs.{noStamp};
 ghost use Rattle.records.specs.Rec.{newleader, new-state, newstate-ack, oneBallot, twoStamps, noRows, carried};
-ghost use Rattle.boxes.specs.Box.{isRecovering, ownOf};
+ghost use Rattle.boxes.specs.Box.{ownOf};
 ghost use Rattle.boxes.specs.Leaders.{clockStamp, followed, leading};
 ghost use Rattle.boxes.specs.Orders.{nextBallot};
-ghost use Rattle.boxes.specs.Join.{inOrder};
+ghost use Rattle.boxes.specs.Join.{inOrder, judgedNewState, judgedNewstateAck};
 use boxes::BoxState;
 use boxes::Status;
 use house::Ballot;
@@ -47,7 +47,7 @@ pub fn new_state_record(plan: Plan, x: BoxState, to: BoxNo) -> Record
 
 // recovering, ballot equal
 pub fn decide_new_state(x: BoxState, b: Ballot) -> Answer
-    ensures { λ r. ⌜ r ≡ inOrder true (isRecovering (x .core .status)) (sameBallot b (x .core .ballot)) true true ⌝ }
+    ensures { λ r. ⌜ r ≡ judgedNewState x b ⌝ }
 {
     let c = x.core;
     let status = c.status;
@@ -99,7 +99,7 @@ pub fn newstate_ack_record(x: BoxState, to: BoxNo, b: Ballot) -> Record
 
 // recovering, ballot and cballot equal
 pub fn decide_newstate_ack(x: BoxState, b: Ballot) -> Answer
-    ensures { λ r. ⌜ r ≡ inOrder true (isRecovering (x .core .status)) (sameBallot b (x .core .ballot) && sameBallot b (x .core .cballot)) true true ⌝ }
+    ensures { λ r. ⌜ r ≡ judgedNewstateAck x b ⌝ }
 {
     let c = x.core;
     let status = c.status;

@@ -1,15 +1,11 @@
 // Kind 1, and what kind 2 tests and keeps. What each function means stands in specs/Multicast.antt and specs/Join.antt of the crate boxes.
 ghost use mathlib.Core.Path.{_≡_};
-ghost use mathlib.Core.Bool.{true, not, _&&_, _||_};
 ghost use Prim.Native.Nat.{_<_, _≤_};
-ghost use lib.Dec.{eqb, ltb};
 ghost use Rattle.laws.specs.Choice.{pick};
 ghost use Rattle.house.specs.Limits.{mostTime};
-ghost use Rattle.plans.specs.Plan.{homeOf, names};
 ghost use Rattle.marks.specs.Marks.{noMarks};
-ghost use Rattle.boxes.specs.Box.{isLeader, isRecovering, homeIn, rowAt};
 ghost use Rattle.boxes.specs.Multicast.{proposed, ballotFits, stampFits, sameKept, kept};
-ghost use Rattle.boxes.specs.Join.{inOrder};
+ghost use Rattle.boxes.specs.Join.{judgedMulticast, judgedAccept};
 use boxes::BoxState;
 use house::Ballot;
 use house::BoxNo;
@@ -21,7 +17,7 @@ use records::Answer;
 
 // 1 MULTICAST: leader only; a new stamp needs room on the clock
 pub fn decide_multicast(plan: Plan, x: BoxState, job: u8) -> Answer
-    ensures { λ r. ⌜ r ≡ inOrder (names plan job (homeIn plan x)) (isLeader (x .core .status)) true true (not (eqb (rowAt x job .phase) 0) || ltb (x .core .clock) mostTime) ⌝ }
+    ensures { λ r. ⌜ r ≡ judgedMulticast plan x job ⌝ }
 {
     let c = x.core;
     let status = c.status;
@@ -92,7 +88,7 @@ pub fn same_kept(x: BoxState, job: u8, d: District, b: Ballot, s: Stamp) -> bool
 }
 
 pub fn decide_accept(plan: Plan, x: BoxState, from: BoxNo, job: u8, b: Ballot, s: Stamp) -> Answer
-    ensures { λ r. ⌜ r ≡ inOrder (names plan job (homeIn plan x)) (not (isRecovering (x .core .status))) (ballotFits plan x job (homeOf plan from) (record { ballot = b; stamp = s }) && stampFits x job (homeOf plan from) (record { ballot = b; stamp = s })) true true ⌝ }
+    ensures { λ r. ⌜ r ≡ judgedAccept plan x from job (record { ballot = b; stamp = s }) ⌝ }
 {
     let c = x.core;
     let status = c.status;

@@ -1,14 +1,11 @@
 // Kinds 5 and 6: a box joins a ballot with its vote, and counts the votes for its own. What each function means stands in
 // specs/Leaders.antt and specs/Join.antt of the crate boxes.
 ghost use mathlib.Core.Path.{_≡_};
-ghost use mathlib.Core.Bool.{true, not, _&&_};
 ghost use lib.Dec.{leb};
-ghost use Rattle.house.specs.Pairs.{ballotLt, sameBallot};
 ghost use Rattle.plans.specs.Plan.{quorumOf};
 ghost use Rattle.records.specs.Rec.{carried};
-ghost use Rattle.boxes.specs.Box.{isRecovering};
 ghost use Rattle.boxes.specs.Leaders.{joined, clockStamp, voteFor, votesCount, votedBy};
-ghost use Rattle.boxes.specs.Join.{inOrder};
+ghost use Rattle.boxes.specs.Join.{judgedNewleader, judgedNewleaderAck};
 use boxes::BoxState;
 use boxes::Status;
 use boxes::Vote;
@@ -21,7 +18,7 @@ use records::Record;
 
 // 5 NEWLEADER: any status, ballot above own ballot
 pub fn decide_newleader(x: BoxState, b: Ballot) -> Answer
-    ensures { λ r. ⌜ r ≡ inOrder true true (ballotLt (x .core .ballot) b) true true ⌝ }
+    ensures { λ r. ⌜ r ≡ judgedNewleader x b ⌝ }
 {
     let c = x.core;
     let own = c.ballot;
@@ -88,7 +85,7 @@ pub fn voted_by(x: BoxState, from: BoxNo) -> bool
 
 // 6 NEWLEADER_ACK: recovering, ballot equal, not merged already and not the same voter
 pub fn decide_newleader_ack(x: BoxState, from: BoxNo, b: Ballot) -> Answer
-    ensures { λ r. ⌜ r ≡ inOrder true (isRecovering (x .core .status)) (sameBallot b (x .core .ballot)) (not (sameBallot (x .core .cballot) (x .core .ballot)) && not (votedBy x from)) true ⌝ }
+    ensures { λ r. ⌜ r ≡ judgedNewleaderAck x from b ⌝ }
 {
     let c = x.core;
     let status = c.status;
