@@ -1,14 +1,14 @@
-// Kinds 1 to 4 as steps of a box: the answer, the new box, and its records in the tray. The definitions stand in specs/Multicast.antt of boxes.
+// Kinds 1 to 4 as steps of a box that are not refused: the new box, and its records in the tray. The definitions stand in specs/Multicast.antt of boxes.
 ghost use mathlib.Core.Path.{_≡_};
-ghost use mathlib.Core.Bool.{true, false};
+ghost use mathlib.Core.Bool.{true};
 ghost use Prim.Native.Nat.{_≤_, _<_};
 ghost use lib.ListN.{length};
 ghost use Rattle.laws.specs.Tray.{onto};
 ghost use Rattle.house.specs.Limits.{mostTime};
-ghost use Rattle.plans.specs.Plan.{homeOf, names, planSound};
+ghost use Rattle.plans.specs.Plan.{homeOf, planSound};
 ghost use Rattle.records.specs.Bytes.{encodeAll};
-ghost use Rattle.boxes.specs.Box.{homeIn, onList};
 ghost use Rattle.boxes.specs.Out.{resultOf, recordsOf};
+ghost use Rattle.boxes.specs.Join.{judgedMulticast, judgedAccept, judgedAcceptAck, judgedDeliver};
 ghost use Rattle.boxes.specs.Multicast.{whenKept, onMulticast, onAccept, whenMarked, onAcceptAck, onDeliver};
 use boxes::BoxState;
 use boxes::Delivery;
@@ -20,33 +20,21 @@ use plans::Plan;
 use records::Answer;
 
 // 1 MULTICAST
-pub fn on_multicast(plan: Plan, x: BoxState, job: u8, tray: &mut [u8]) -> Outcome
-    requires { ⌜ (planSound plan ≡ true) × (job < 64) × (x .core .clock ≤ mostTime) × (length (encodeAll plan (recordsOf (onMulticast plan x job))) ≤ length (now tray)) ⌝ }
+pub fn do_multicast(plan: Plan, x: BoxState, job: u8, tray: &mut [u8]) -> Outcome
+    requires { ⌜ (planSound plan ≡ true) × (job < 64) × (x .core .clock ≤ mostTime) × (length (encodeAll plan (recordsOf (onMulticast plan x job))) ≤ length (now tray)) × (judgedMulticast plan x job ≡ Answer.Done) ⌝ }
     ensures { λ r. ⌜ (r ≡ resultOf plan x (onMulticast plan x job)) × (now (tray .exit) ≡ onto (encodeAll plan (recordsOf (onMulticast plan x job))) (now (tray .entry))) ⌝ }
 {
-    let answer = proposing::decide_multicast(plan, x, job);
-    match answer {
-        Answer::No(n) => Outcome {
-            answer: Answer::No(n),
-            used: 0,
-            records: 0,
-            state: x,
-            delivery: Delivery::Nothing,
-        },
-        Answer::Done => {
-            let y = proposing::propose(plan, x, job);
-            let c = y.core;
-            let own = c.own;
-            let r = drafting::accept_record(y, own, job);
-            let s = sends::send(tray, plan, r);
-            Outcome {
-                answer: Answer::Done,
-                used: s.used,
-                records: s.records,
-                state: y,
-                delivery: Delivery::Nothing,
-            }
-        }
+    let y = proposing::propose(plan, x, job);
+    let c = y.core;
+    let own = c.own;
+    let r = drafting::accept_record(y, own, job);
+    let s = sends::send(tray, plan, r);
+    Outcome {
+        answer: Answer::Done,
+        used: s.used,
+        records: s.records,
+        state: y,
+        delivery: Delivery::Nothing,
     }
 }
 
@@ -79,7 +67,7 @@ fn when_kept(plan: Plan, x: BoxState, job: u8, tray: &mut [u8]) -> Outcome
 }
 
 // 2 ACCEPT
-pub fn on_accept(
+pub fn do_accept(
     plan: Plan,
     x: BoxState,
     from: BoxNo,
@@ -88,24 +76,12 @@ pub fn on_accept(
     s: Stamp,
     tray: &mut [u8],
 ) -> Outcome
-    requires { ⌜ (planSound plan ≡ true) × (job < 64) × (homeOf plan from .0 < 4) × (length (encodeAll plan (recordsOf (onAccept plan x from job (record { ballot = b; stamp = s })))) ≤ length (now tray)) ⌝ }
+    requires { ⌜ (planSound plan ≡ true) × (job < 64) × (homeOf plan from .0 < 4) × (length (encodeAll plan (recordsOf (onAccept plan x from job (record { ballot = b; stamp = s })))) ≤ length (now tray)) × (judgedAccept plan x from job (record { ballot = b; stamp = s }) ≡ Answer.Done) ⌝ }
     ensures { λ r. ⌜ (r ≡ resultOf plan x (onAccept plan x from job (record { ballot = b; stamp = s }))) × (now (tray .exit) ≡ onto (encodeAll plan (recordsOf (onAccept plan x from job (record { ballot = b; stamp = s })))) (now (tray .entry))) ⌝ }
 {
-    let answer = proposing::decide_accept(plan, x, from, job, b, s);
-    match answer {
-        Answer::No(n) => Outcome {
-            answer: Answer::No(n),
-            used: 0,
-            records: 0,
-            state: x,
-            delivery: Delivery::Nothing,
-        },
-        Answer::Done => {
-            let d = plans::home_of(plan, from);
-            let y = proposing::keep(x, job, d, b, s);
-            when_kept(plan, y, job, tray)
-        }
-    }
+    let d = plans::home_of(plan, from);
+    let y = proposing::keep(x, job, d, b, s);
+    when_kept(plan, y, job, tray)
 }
 
 // 3 ACCEPT_ACK, once it is marked
@@ -137,7 +113,7 @@ fn when_marked(plan: Plan, x: BoxState, job: u8, tray: &mut [u8]) -> Outcome
 }
 
 // 3 ACCEPT_ACK
-pub fn on_accept_ack(
+pub fn do_accept_ack(
     plan: Plan,
     x: BoxState,
     from: BoxNo,
@@ -145,27 +121,15 @@ pub fn on_accept_ack(
     ballots: [Ballot; 4],
     tray: &mut [u8],
 ) -> Outcome
-    requires { ⌜ (planSound plan ≡ true) × (job < 64) × (length (encodeAll plan (recordsOf (onAcceptAck plan x from job ballots))) ≤ length (now tray)) ⌝ }
+    requires { ⌜ (planSound plan ≡ true) × (job < 64) × (length (encodeAll plan (recordsOf (onAcceptAck plan x from job ballots))) ≤ length (now tray)) × (judgedAcceptAck plan x from job ballots ≡ Answer.Done) ⌝ }
     ensures { λ r. ⌜ (r ≡ resultOf plan x (onAcceptAck plan x from job ballots)) × (now (tray .exit) ≡ onto (encodeAll plan (recordsOf (onAcceptAck plan x from job ballots))) (now (tray .entry))) ⌝ }
 {
-    let answer = committing::decide_accept_ack(plan, x, from, job, ballots);
-    match answer {
-        Answer::No(n) => Outcome {
-            answer: Answer::No(n),
-            used: 0,
-            records: 0,
-            state: x,
-            delivery: Delivery::Nothing,
-        },
-        Answer::Done => {
-            let y = committing::mark_by(x, job, from);
-            when_marked(plan, y, job, tray)
-        }
-    }
+    let y = committing::mark_by(x, job, from);
+    when_marked(plan, y, job, tray)
 }
 
 // 4 DELIVER
-pub fn on_deliver(
+pub fn do_deliver(
     plan: Plan,
     x: BoxState,
     job: u8,
@@ -173,27 +137,15 @@ pub fn on_deliver(
     local: Stamp,
     global: Stamp,
 ) -> Outcome
-    requires { ⌜ (job < 64) × (names plan job (homeIn plan x) ≡ true → onList x job ≡ false → x .core .count < 64) ⌝ }
+    requires { ⌜ (job < 64) × (x .core .count < 64) × (judgedDeliver plan x job b global ≡ Answer.Done) ⌝ }
     ensures { λ r. ⌜ r ≡ resultOf plan x (onDeliver plan x job (record { ballot = b; local = local; global = global })) ⌝ }
 {
-    let answer = delivering::decide_deliver(plan, x, job, b, global);
-    match answer {
-        Answer::No(n) => Outcome {
-            answer: Answer::No(n),
-            used: 0,
-            records: 0,
-            state: x,
-            delivery: Delivery::Nothing,
-        },
-        Answer::Done => {
-            let y = delivering::deliver(x, job, b, local, global);
-            Outcome {
-                answer: Answer::Done,
-                used: 0,
-                records: 0,
-                state: y,
-                delivery: Delivery::Job(job),
-            }
-        }
+    let y = delivering::deliver(x, job, b, local, global);
+    Outcome {
+        answer: Answer::Done,
+        used: 0,
+        records: 0,
+        state: y,
+        delivery: Delivery::Job(job),
     }
 }
