@@ -1,3 +1,4 @@
--- A record that is acted on: what is known of it, and which kind's step it is.
+-- A record that is acted on: what is known of it, its answer, and which kind's step it is.
 pub mod Acting
+pub mod Judged
 pub mod Kinds

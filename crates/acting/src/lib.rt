@@ -1,21 +1,75 @@
-// A record that passed the tests 1 to 5 is acted on: its kind decides which step it is.
+// A record that passed the tests 1 to 5: first its answer, from the box as it is; then, unless it is refused, its step. The kind decides which.
 ghost use mathlib.Core.Path.{_≡_};
 ghost use Prim.Native.Nat.{_≤_, _<_};
 ghost use lib.ListN.{length};
 ghost use Rattle.laws.specs.Tray.{onto};
+ghost use Rattle.records.specs.Format.{mostKind};
 ghost use Rattle.records.specs.Rec.{meaning};
 ghost use Rattle.records.specs.Bytes.{encodeAll};
 ghost use Rattle.boxes.specs.Out.{resultOf, recordsOf};
 ghost use Rattle.boxes.specs.Step.{react};
 ghost use Rattle.acting.specs.Acting.{Acting};
+ghost use Rattle.acting.specs.Judged.{judged};
 use boxes::BoxState;
 use boxes::Outcome;
 use plans::Plan;
+use records::Answer;
 use records::Record;
+
+// the answer to kinds 1 to 4
+fn judge_job(plan: Plan, x: BoxState, r: Record) -> Answer
+    requires { ⌜ (1 ≤ r .kind) × (r .kind ≤ 4) ⌝ }
+    ensures { λ a. ⌜ a ≡ judged plan x (meaning r) ⌝ }
+{
+    let from = r.from;
+    let job = r.job;
+    let ballots = r.ballots;
+    let stamps = r.stamps;
+    let b = ballots[0];
+    let s = stamps[0];
+    let k = r.kind;
+    match k {
+        1 => proposing::decide_multicast(plan, x, job),
+        2 => proposing::decide_accept(plan, x, from, job, b, s),
+        3 => committing::decide_accept_ack(plan, x, from, job, ballots),
+        _ => {
+            let global = stamps[1];
+            delivering::decide_deliver(plan, x, job, b, global)
+        }
+    }
+}
+
+// the answer to kinds 5 to 8: no plan is asked
+fn judge_leader(x: BoxState, r: Record) -> Answer
+    requires { ⌜ (4 < r .kind) × (r .kind ≤ mostKind) ⌝ }
+    ensures { λ a. ⌜ ((plan : Plan) → a ≡ judged plan x (meaning r)) ⌝ }
+{
+    let from = r.from;
+    let ballots = r.ballots;
+    let b = ballots[0];
+    let k = r.kind;
+    match k {
+        5 => voting::decide_newleader(x, b),
+        6 => voting::decide_newleader_ack(x, from, b),
+        7 => leading::decide_new_state(x, b),
+        _ => leading::decide_newstate_ack(x, b),
+    }
+}
+
+// the answer: the first of the tests 6 to 10 that fails
+pub fn judge(plan: Plan, x: BoxState, r: Record) -> Answer
+    requires { ⌜ (1 ≤ r .kind) × (r .kind ≤ mostKind) ⌝ }
+    ensures { λ a. ⌜ a ≡ judged plan x (meaning r) ⌝ }
+{
+    if r.kind <= 4 {
+        return judge_job(plan, x, r);
+    }
+    judge_leader(x, r)
+}
 
 // kinds 1 to 4
 fn act_job(plan: Plan, x: BoxState, r: Record, tray: &mut [u8]) -> Outcome
-    requires { ⌜ (r .kind ≤ 4) × Acting plan x r (length (now tray)) ⌝ }
+    requires { ⌜ (r .kind ≤ 4) × Acting plan x r (length (now tray)) × (judged plan x (meaning r) ≡ Answer.Done) ⌝ }
     ensures { λ o. ⌜ (o ≡ resultOf plan x (react plan x (meaning r))) × (now (tray .exit) ≡ onto (encodeAll plan (recordsOf (react plan x (meaning r)))) (now (tray .entry))) ⌝ }
 {
     let from = r.from;
@@ -26,41 +80,45 @@ fn act_job(plan: Plan, x: BoxState, r: Record, tray: &mut [u8]) -> Outcome
     let s = stamps[0];
     let k = r.kind;
     match k {
-        1 => job_steps::on_multicast(plan, x, job, tray),
-        2 => job_steps::on_accept(plan, x, from, job, b, s, tray),
-        3 => job_steps::on_accept_ack(plan, x, from, job, ballots, tray),
+        1 => job_steps::do_multicast(plan, x, job, tray),
+        2 => job_steps::do_accept(plan, x, from, job, b, s, tray),
+        3 => job_steps::do_accept_ack(plan, x, from, job, ballots, tray),
         _ => {
             let t = stamps[1];
-            job_steps::on_deliver(plan, x, job, b, s, t)
+            job_steps::do_deliver(plan, x, job, b, s, t)
         }
     }
 }
 
 // kinds 5 to 8
 fn act_leader(plan: Plan, x: BoxState, r: Record, tray: &mut [u8]) -> Outcome
-    requires { ⌜ (4 < r .kind) × Acting plan x r (length (now tray)) ⌝ }
+    requires { ⌜ (4 < r .kind) × Acting plan x r (length (now tray)) × (judged plan x (meaning r) ≡ Answer.Done) ⌝ }
     ensures { λ o. ⌜ (o ≡ resultOf plan x (react plan x (meaning r))) × (now (tray .exit) ≡ onto (encodeAll plan (recordsOf (react plan x (meaning r)))) (now (tray .entry))) ⌝ }
 {
     let from = r.from;
     let ballots = r.ballots;
     let stamps = r.stamps;
-    let table = r.table;
     let b = ballots[0];
     let s = stamps[0];
     let k = r.kind;
     match k {
-        5 => leader_steps::on_newleader(plan, x, from, b, tray),
+        5 => leader_steps::do_newleader(plan, x, from, b, tray),
         6 => {
             let cb = ballots[1];
-            leader_steps::on_newleader_ack(plan, x, from, b, cb, s, table, tray)
+            let table = r.table;
+            leader_steps::do_newleader_ack(plan, x, from, b, cb, s, table, tray)
         }
-        7 => leader_steps::on_new_state(plan, x, from, b, s, table, tray),
-        _ => leader_steps::on_newstate_ack(plan, x, b, tray),
+        7 => {
+            let table = r.table;
+            leader_steps::do_new_state(plan, x, from, b, s, table, tray)
+        }
+        _ => leader_steps::do_newstate_ack(plan, x, b, tray),
     }
 }
 
+// the step
 pub fn act(plan: Plan, x: BoxState, r: Record, tray: &mut [u8]) -> Outcome
-    requires { ⌜ Acting plan x r (length (now tray)) ⌝ }
+    requires { ⌜ Acting plan x r (length (now tray)) × (judged plan x (meaning r) ≡ Answer.Done) ⌝ }
     ensures { λ o. ⌜ (o ≡ resultOf plan x (react plan x (meaning r))) × (now (tray .exit) ≡ onto (encodeAll plan (recordsOf (react plan x (meaning r)))) (now (tray .entry))) ⌝ }
 {
     if r.kind <= 4 {

@@ -1,0 +1,73 @@
+-- The answer to a record that passed the tests 1 to 5: the first of the tests 6 to 10 that fails, by the record's kind.
+use Prim.Native.Nat.{ℕ}
+use mathlib.Core.Path.{_≡_, ap}
+use Rattle.plans.specs.declared.Plan.{Plan}
+use Rattle.records.specs.Answers.{unreadable}
+use Rattle.records.specs.Kinds.{says-multicast, says-accept, says-accept-ack, says-deliver, says-newleader, says-newleader-ack, says-new-state, says-newstate-ack}
+use Rattle.records.specs.Rec.{Rec, multicast, accept, accept-ack, deliver, newleader, newleader-ack, new-state, newstate-ack, unknown, meaning, ballotNo, stampNo}
+use Rattle.records.specs.declared.Record.{Record}
+use Rattle.records.specs.declared.Answer.{Answer}
+use Rattle.records.specs.declared.Answer.the-variants.{No}
+use Rattle.boxes.specs.Out.{refused}
+use Rattle.boxes.specs.Step.{react}
+use Rattle.boxes.specs.Join.{judgedMulticast, judgedAccept, judgedAcceptAck, judgedDeliver, judgedNewleader, judgedNewleaderAck, judgedNewState, judgedNewstateAck}
+use Rattle.boxes.specs.Join.{multicast-is, accept-is, accept-ack-is, deliver-is, newleader-is, newleader-ack-is, new-state-is, newstate-ack-is}
+use Rattle.boxes.specs.declared.BoxState.{BoxState}
+
+unfoldable pub judged : Plan → BoxState → Rec → Answer
+judged P x (multicast from to j) = judgedMulticast P x j
+judged P x (accept from to j y) = judgedAccept P x from j y
+judged P x (accept-ack from to j bs) = judgedAcceptAck P x from j bs
+judged P x (deliver from to j y) = judgedDeliver P x j (y .ballot) (y .global)
+judged P x (newleader from to b) = judgedNewleader x b
+judged P x (newleader-ack from to y) = judgedNewleaderAck x from (y .ballot)
+judged P x (new-state from to y) = judgedNewState x (y .ballot)
+judged P x (newstate-ack from to b) = judgedNewstateAck x b
+judged P x unknown = No unreadable
+
+-- a record that is refused: its step is that refusal
+pub judged-no : (P : Plan) (x : BoxState) (m : Rec) (n : ℕ) → judged P x m ≡ No n → react P x m ≡ refused n
+unfolding judged react
+judged-no P x (multicast from to j) n e = multicast-is P x j e
+judged-no P x (accept from to j y) n e = accept-is P x from j y e
+judged-no P x (accept-ack from to j bs) n e = accept-ack-is P x from j bs e
+judged-no P x (deliver from to j y) n e = deliver-is P x j y e
+judged-no P x (newleader from to b) n e = newleader-is P x from b e
+judged-no P x (newleader-ack from to y) n e = newleader-ack-is P x from y e
+judged-no P x (new-state from to y) n e = new-state-is P x from y e
+judged-no P x (newstate-ack from to b) n e = newstate-ack-is P x b e
+judged-no P x unknown n e = let q : unreadable ≡ n = cc in ap refused q
+
+-- one law a kind
+module _ (P : Plan) (x : BoxState) (r : Record) where
+  pub judged-1 : r .kind ≡ 1 → judged P x (meaning r) ≡ judgedMulticast P x (r .job)
+  unfolding judged
+  judged-1 e = ap (judged P x) (says-multicast r e)
+
+  pub judged-2 : r .kind ≡ 2 → judged P x (meaning r) ≡ judgedAccept P x (r .from) (r .job) (record { ballot = ballotNo r 0; stamp = stampNo r 0 })
+  unfolding judged
+  judged-2 e = ap (judged P x) (says-accept r e)
+
+  pub judged-3 : r .kind ≡ 3 → judged P x (meaning r) ≡ judgedAcceptAck P x (r .from) (r .job) (r .ballots)
+  unfolding judged
+  judged-3 e = ap (judged P x) (says-accept-ack r e)
+
+  pub judged-4 : r .kind ≡ 4 → judged P x (meaning r) ≡ judgedDeliver P x (r .job) (ballotNo r 0) (stampNo r 1)
+  unfolding judged
+  judged-4 e = ap (judged P x) (says-deliver r e)
+
+  pub judged-5 : r .kind ≡ 5 → judged P x (meaning r) ≡ judgedNewleader x (ballotNo r 0)
+  unfolding judged
+  judged-5 e = ap (judged P x) (says-newleader r e)
+
+  pub judged-6 : r .kind ≡ 6 → judged P x (meaning r) ≡ judgedNewleaderAck x (r .from) (ballotNo r 0)
+  unfolding judged
+  judged-6 e = ap (judged P x) (says-newleader-ack r e)
+
+  pub judged-7 : r .kind ≡ 7 → judged P x (meaning r) ≡ judgedNewState x (ballotNo r 0)
+  unfolding judged
+  judged-7 e = ap (judged P x) (says-new-state r e)
+
+  pub judged-8 : r .kind ≡ 8 → judged P x (meaning r) ≡ judgedNewstateAck x (ballotNo r 0)
+  unfolding judged
+  judged-8 e = ap (judged P x) (says-newstate-ack r e)
