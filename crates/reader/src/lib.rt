@@ -88,13 +88,11 @@ fn refused(n: u8) -> ReadOut
     }
 }
 
-// reads one record, which all bytes of s are
-pub fn read_record(plan: Plan, s: &[u8]) -> ReadOut
+// reads one record, which all bytes of s are, under a plan that is sound
+pub fn read_bytes(plan: Plan, s: &[u8]) -> ReadOut
+    requires { ⌜ planSound plan ≡ true ⌝ }
     ensures { λ o. ⌜ RecordRead plan (now (s .entry)) o ⌝ }
 {
-    if sound_plans::plan_sound(plan) {} else {
-        return refused(records::NOT_SOUND);
-    }
     if is_shaped(plan, s) {} else {
         return refused(records::UNREADABLE);
     }
@@ -106,4 +104,14 @@ pub fn read_record(plan: Plan, s: &[u8]) -> ReadOut
         answer: Answer::Done,
         rec: r,
     }
+}
+
+// the same under every plan
+pub fn read_record(plan: Plan, s: &[u8]) -> ReadOut
+    ensures { λ o. ⌜ RecordRead plan (now (s .entry)) o ⌝ }
+{
+    if sound_plans::plan_sound(plan) {} else {
+        return refused(records::NOT_SOUND);
+    }
+    read_bytes(plan, s)
 }
