@@ -1,15 +1,21 @@
 // A record that passed the tests 1 to 5: first its answer, from the box as it is; then, unless it is refused, its step. The kind decides which.
+ghost use mathlib.Core.Bool.{true};
 ghost use mathlib.Core.Path.{_≡_};
 ghost use Prim.Native.Nat.{_≤_, _<_};
+ghost use lib.Dec.{eqb};
 ghost use lib.ListN.{length};
 ghost use Rattle.laws.specs.Tray.{onto};
+ghost use Rattle.records.specs.Answers.{otherBox, orNo};
 ghost use Rattle.records.specs.Format.{mostKind};
 ghost use Rattle.records.specs.Rec.{meaning};
 ghost use Rattle.records.specs.Bytes.{encodeAll};
+ghost use Rattle.boxes.specs.Box.{ownOf};
+ghost use Rattle.boxes.specs.Sound.{sound};
 ghost use Rattle.boxes.specs.Out.{resultOf, recordsOf};
 ghost use Rattle.boxes.specs.Step.{react};
 ghost use Rattle.acting.specs.Acting.{Acting};
 ghost use Rattle.acting.specs.Judged.{judged};
+ghost use Rattle.acting.specs.Judging.{Judging};
 use boxes::BoxState;
 use boxes::Outcome;
 use plans::Plan;
@@ -65,6 +71,46 @@ pub fn judge(plan: Plan, x: BoxState, r: Record) -> Answer
         return judge_job(plan, x, r);
     }
     judge_leader(x, r)
+}
+
+// what a box answers to bytes, and the record that it will act on unless it refuses
+pub struct Judged {
+    pub rec: Record,
+    pub answer: Answer,
+}
+
+// a record that the reader took: 5 if it is for another box
+fn judge_record(plan: Plan, x: BoxState, r: Record) -> Answer
+    requires { ⌜ (1 ≤ r .kind) × (r .kind ≤ mostKind) ⌝ }
+    ensures { λ a. ⌜ a ≡ orNo (eqb (r .to .0) (ownOf x .0)) otherBox (judged plan x (meaning r)) ⌝ }
+{
+    let c = x.core;
+    let own = c.own;
+    let to = r.to;
+    if to.0 == own.0 {
+        return judge(plan, x, r);
+    }
+    Answer::No(records::OTHER_BOX)
+}
+
+// bytes given to a sound box: the answers 3 to 10
+pub fn judge_bytes(plan: Plan, x: BoxState, bytes: &[u8]) -> Judged
+    requires { ⌜ sound plan x ≡ true ⌝ }
+    ensures { λ j. ⌜ Judging plan x (now (bytes .entry)) (j .answer) (j .rec) ⌝ }
+{
+    let got = reader::read_bytes(plan, bytes);
+    let answer = got.answer;
+    let r = got.rec;
+    match answer {
+        Answer::No(n) => Judged {
+            rec: r,
+            answer: Answer::No(n),
+        },
+        Answer::Done => Judged {
+            rec: r,
+            answer: judge_record(plan, x, r),
+        },
+    }
 }
 
 // kinds 1 to 4
