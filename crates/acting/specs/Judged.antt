@@ -1,14 +1,20 @@
 -- The answer to a record that passed the tests 1 to 5: the first of the tests 6 to 10 that fails, by the record's kind.
 use Prim.Native.Nat.{ℕ}
-use mathlib.Core.Path.{_≡_, ap}
+use mathlib.Core.Bool.{Bool, true}
+use mathlib.Core.Path.{_≡_, refl, ap}
+use native.Mathlib.Omega.{arith}
+use Rattle.laws.specs.Choice.{pick, pick-both}
 use Rattle.plans.specs.declared.Plan.{Plan}
 use Rattle.records.specs.Answers.{unreadable}
 use Rattle.records.specs.Kinds.{says-multicast, says-accept, says-accept-ack, says-deliver, says-newleader, says-newleader-ack, says-new-state, says-newstate-ack}
 use Rattle.records.specs.Rec.{Rec, multicast, accept, accept-ack, deliver, newleader, newleader-ack, new-state, newstate-ack, unknown, meaning, ballotNo, stampNo}
 use Rattle.records.specs.declared.Record.{Record}
 use Rattle.records.specs.declared.Answer.{Answer}
-use Rattle.records.specs.declared.Answer.the-variants.{No}
-use Rattle.boxes.specs.Out.{refused}
+use Rattle.records.specs.declared.Answer.the-variants.{Done, No}
+use Rattle.boxes.specs.Out.{Out, refused}
+use Rattle.boxes.specs.Multicast.{whenKept, whenMarked}
+use Rattle.boxes.specs.Leaders.{whenVoted}
+use Rattle.boxes.specs.Promise.{wasDone}
 use Rattle.boxes.specs.Step.{react}
 use Rattle.boxes.specs.Join.{judgedMulticast, judgedAccept, judgedAcceptAck, judgedDeliver, judgedNewleader, judgedNewleaderAck, judgedNewState, judgedNewstateAck}
 use Rattle.boxes.specs.Join.{multicast-is, accept-is, accept-ack-is, deliver-is, newleader-is, newleader-ack-is, new-state-is, newstate-ack-is}
@@ -37,6 +43,22 @@ judged-no P x (newleader-ack from to y) n e = newleader-ack-is P x from y e
 judged-no P x (new-state from to y) n e = new-state-is P x from y e
 judged-no P x (newstate-ack from to b) n e = newstate-ack-is P x b e
 judged-no P x unknown n e = let q : unreadable ≡ n = cc in ap refused q
+
+-- a record that is not refused: its step is done
+whether : (t : Bool) (a b : Out) → wasDone a ≡ true → wasDone b ≡ true → wasDone (pick t a b) ≡ true
+whether t a b p q = pick-both (λ (o : Out). wasDone o ≡ true) t p q
+
+pub judged-done : (P : Plan) (x : BoxState) (m : Rec) → judged P x m ≡ Done → wasDone (react P x m) ≡ true
+unfolding judged react whenKept whenMarked whenVoted
+judged-done P x (multicast from to j) e = rw (multicast-is P x j e)
+judged-done P x (accept from to j y) e = rw (accept-is P x from j y e) (whether _ _ _ refl refl)
+judged-done P x (accept-ack from to j bs) e = rw (accept-ack-is P x from j bs e) (whether _ _ _ refl refl)
+judged-done P x (deliver from to j y) e = rw (deliver-is P x j y e)
+judged-done P x (newleader from to b) e = rw (newleader-is P x from b e)
+judged-done P x (newleader-ack from to y) e = rw (newleader-ack-is P x from y e) (whether _ _ _ refl refl)
+judged-done P x (new-state from to y) e = rw (new-state-is P x from y e)
+judged-done P x (newstate-ack from to b) e = rw (newstate-ack-is P x b e)
+judged-done P x unknown e = let z : _≡_ {A = ℕ} 0 1 = cc in absurd (omega arith)
 
 -- one law a kind
 module _ (P : Plan) (x : BoxState) (r : Record) where

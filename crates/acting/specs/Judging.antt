@@ -30,7 +30,9 @@ use Rattle.boxes.specs.Out.{Out, refused, guard}
 use Rattle.boxes.specs.Join.{under}
 use Rattle.boxes.specs.Step.{react, takes, receives}
 use Rattle.boxes.specs.declared.BoxState.{BoxState}
-use Rattle.keeps.specs.Sends.{Sized}
+use Rattle.keeps.specs.Sends.{Every, every-guard, Sized}
+use Rattle.keeps.specs.Goods.{Keeps}
+use Rattle.keeps.specs.Steps.{takes-every}
 use Rattle.keeps.specs.Sound.{Lengths}
 use Rattle.acting.specs.Acting.{Acting, acting, guard-on}
 use Rattle.acting.specs.Judged.{judged, judged-no}
@@ -77,6 +79,12 @@ parse-sized P s h =
           length-append (decRow rows (rowsIn P k) (drop (rowsAt P k + 1) s)) (replicate (mostJobs - rowsIn P k) noRow)
           ∙ rw (row-read-length rows (rowsIn P k) (drop (rowsAt P k + 1) s), length-replicate (mostJobs - rowsIn P k) noRow) (omega arith);
     }
+
+-- whatever comes of bytes, the box stays sound and its records fit
+pub receives-every : (P : Plan) (x : BoxState) (room : ℕ) (s : List ℕ) → Lengths x → Every (Keeps P x) (receives P x room s)
+unfolding receives
+receives-every P x room s L =
+    every-guard _ _ _ (λ h. every-guard _ _ _ (λ t. every-guard _ _ _ (λ v. takes-every P x room (parse P s) L (parse-sized P s (sound-plan P x h)))))
 
 pub kind-fits : (P : Plan) (r : Record) → valid P r ≡ true → (1 ≤ r .kind) × (r .kind ≤ mostKind)
 unfolding valid known
