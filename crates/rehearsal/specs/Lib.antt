@@ -2,3 +2,5 @@
 pub mod Night
 pub mod Promises
 pub mod Settled
+pub mod Alone
+pub mod Steps

@@ -1,99 +1,76 @@
 -- `rehearsal::rehearse` meets its contract.
-use Rattle.rehearsal.specs.Settled.{given-off, given-on}
-use mathlib.Core.Path.{sym, _∙_}
+use Rattle.rehearsal.specs.Alone.{found-stands, alone-is}
+use Rattle.rehearsal.specs.Night.{boxIn}
+use Rattle.rehearsal.specs.Settled.{rehearsed-no}
+use Rattle.rehearsal.specs.Steps.{Judges}
+use Rattle.posting.specs.Index.{indexed-none}
+use Rattle.laws.specs.Choice.{never}
+use Prim.Native.Nat.{ℕ}
+use native.Mathlib.Omega.{arith}
+use mathlib.Core.List.{[], _∷_}
+use mathlib.Core.Path.{_≡_, refl, _∙_}
 use borrow.Author.Needs.{needs}
 use Rattle.rehearsal.proofs.rehearse.Statement.{statement}
 use Rattle.rehearsal.proofs.rehearse.Tie as tie
 
-plan-sound-requires : tie.Need-plan-sound-requires
-plan-sound-requires c κs = search needs
+slice-aggregate-find : tie.Need-slice-aggregate-find
+slice-aggregate-find c = search needs
 
-returns : tie.Need-returns
-returns c = let a = c .before .before .before .args in given-off (a .plan) (a .night) (a .post .now) (a .order) (sym (c .before .plan-sound .ensures) ∙ c .if1 .left)
+find-requires : tie.Need-find-requires
+find-requires c κs = let a = c .before .before .before .args in indexed-none (a .plan) (a .post .now) (a .night .used) (0 ∷ []) (omega arith) refl
 
-enum-known-order : tie.Need-enum-known-order
-enum-known-order c = search needs
+box-at-requires : tie.Need-box-at-requires
+box-at-requires c κs = c .before .find .ensures .at-low
 
-do-post-requires : tie.Need-do-post-requires
-do-post-requires c κs = sym (c .before .before .before .before .before .plan-sound .ensures) ∙ c .before .before .before .before .if1 .taken
+known-sound-requires : tie.Need-known-sound-requires
+known-sound-requires c κs = λ h. never h refl
 
-enum-known-order-2 : tie.Need-enum-known-order-2
-enum-known-order-2 c = search needs
+judge-requires : tie.Need-judge-requires
+judge-requires c κs = let k = c .before .known-sound in let F = c .before .before .before .before .find .ensures in (k .ensures .0, k .ensures .1, F .start-low, F .starts)
 
-do-stand-requires : tie.Need-do-stand-requires
-do-stand-requires c κs = sym (c .before .before .before .before .before .plan-sound .ensures) ∙ c .before .before .before .before .if1 .taken
+enum-known-answer : tie.Need-enum-known-answer
+enum-known-answer c = search needs
 
-enum-known-order-3 : tie.Need-enum-known-order-3
-enum-known-order-3 c = search needs
+enum-told : tie.Need-enum-told
+enum-told c = search needs
 
-do-retry-requires : tie.Need-do-retry-requires
-do-retry-requires c κs = sym (c .before .before .before .before .before .plan-sound .ensures) ∙ c .before .before .before .before .if1 .taken
-
-enum-known-order-4 : tie.Need-enum-known-order-4
-enum-known-order-4 c = search needs
-
-do-cut-requires : tie.Need-do-cut-requires
-do-cut-requires c κs = sym (c .before .before .before .before .before .plan-sound .ensures) ∙ c .before .before .before .before .if1 .taken
-
-enum-known-order-5 : tie.Need-enum-known-order-5
-enum-known-order-5 c = search needs
-
-do-carry-requires : tie.Need-do-carry-requires
-do-carry-requires c κs = sym (c .before .before .before .before .before .plan-sound .ensures) ∙ c .before .before .before .before .if1 .taken
+carry-out-requires : tie.Need-carry-out-requires
+carry-out-requires c κs =
+    let a = c .before .before .before .before .before .before .before .before .before .before .before .before .before .args in let x = c .before .before .before .before .before .before .before .box-at in let j = c .before .before .before .before .judge in let F = c .before .before .before .before .before .before .before .before .before .find in
+    let J : Judges (a .plan) (a .night .used) (boxIn (a .night) (F .result .at)) (a .post .now) (a .order) (j .result .answer) (j .result .rec) = rw (← x .ensures) (j .ensures) in
+    (F .ensures .at-low, J .go (c .before .before .enum-told .given .1))
 
 same-length : tie.Need-same-length
 same-length c = search needs
 
-returns-2 : tie.Need-returns-2
-returns-2 c = let a = c .before .before .before .before .before .before .before .before .before .before .args in given-on (a .plan) (a .night) (a .post .now) (a .order) _ (sym (c .before .before .before .before .before .before .before .before .plan-sound .ensures) ∙ c .before .before .before .before .before .before .before .if1 .taken) (c .before .before .before .before .before .order .given .1) (c .before .before .do-post .ensures)
+returns : tie.Need-returns
+returns c =
+    let a = c .before .before .before .before .before .before .before .before .before .before .before .before .args in let x = c .before .before .before .before .before .before .box-at in let j = c .before .before .before .judge in let F = c .before .before .before .before .before .before .before .before .find in
+    let J : Judges (a .plan) (a .night .used) (boxIn (a .night) (F .result .at)) (a .post .now) (a .order) (j .result .answer) (j .result .rec) = rw (← x .ensures) (j .ensures) in
+    let T = found-stands (a .plan) _ (a .night) (a .post .now) (a .order) _ (F .result) _ (F .ensures) in
+    rehearsed-no _ (alone-is (a .plan) (a .night .used) (boxIn (a .night) (F .result .at)) (a .post .now) (a .order) (a .night) (F .result .at) T ∙ J .refuse _ (c .before .answer .given .1))
 
 same-length-2 : tie.Need-same-length-2
 same-length-2 c = search needs
 
-returns-3 : tie.Need-returns-3
-returns-3 c = let a = c .before .before .before .before .before .before .before .before .before .before .args in given-on (a .plan) (a .night) (a .post .now) (a .order) _ (sym (c .before .before .before .before .before .before .before .before .plan-sound .ensures) ∙ c .before .before .before .before .before .before .before .if1 .taken) (c .before .before .before .before .before .order2 .given .1) (c .before .before .do-stand .ensures)
-
-same-length-3 : tie.Need-same-length-3
-same-length-3 c = search needs
-
-returns-4 : tie.Need-returns-4
-returns-4 c = let a = c .before .before .before .before .before .before .before .before .before .before .args in given-on (a .plan) (a .night) (a .post .now) (a .order) _ (sym (c .before .before .before .before .before .before .before .before .plan-sound .ensures) ∙ c .before .before .before .before .before .before .before .if1 .taken) (c .before .before .before .before .before .order3 .given .1) (c .before .before .do-retry .ensures)
-
-same-length-4 : tie.Need-same-length-4
-same-length-4 c = search needs
-
-returns-5 : tie.Need-returns-5
-returns-5 c = let a = c .before .before .before .before .before .before .before .before .before .before .args in given-on (a .plan) (a .night) (a .post .now) (a .order) _ (sym (c .before .before .before .before .before .before .before .before .plan-sound .ensures) ∙ c .before .before .before .before .before .before .before .if1 .taken) (c .before .before .before .before .before .order4 .given .1) (c .before .before .do-cut .ensures)
-
-same-length-5 : tie.Need-same-length-5
-same-length-5 c = search needs
-
-returns-6 : tie.Need-returns-6
-returns-6 c = let a = c .before .before .before .before .before .before .before .before .before .before .args in given-on (a .plan) (a .night) (a .post .now) (a .order) _ (sym (c .before .before .before .before .before .before .before .before .plan-sound .ensures) ∙ c .before .before .before .before .before .before .before .if1 .taken) (c .before .before .before .before .before .order5 .given .1) (c .before .before .do-carry .ensures)
+returns-2 : tie.Need-returns-2
+returns-2 c =
+    let a = c .before .before .before .before .before .before .before .before .before .before .before .before .before .before .before .before .args in let F = c .before .before .before .before .before .before .before .before .before .before .before .before .find in
+    c .before .before .carry-out .ensures (found-stands (a .plan) _ (a .night) (a .post .now) (a .order) _ (F .result) _ (F .ensures))
 
 pub rehearse-spec : {M : Type 1} → statement M
 rehearse-spec =
     tie.close
     (tie.spec
-    plan-sound-requires
-    returns
-    enum-known-order
-    do-post-requires
-    enum-known-order-2
-    do-stand-requires
-    enum-known-order-3
-    do-retry-requires
-    enum-known-order-4
-    do-cut-requires
-    enum-known-order-5
-    do-carry-requires
+    slice-aggregate-find
+    find-requires
+    box-at-requires
+    known-sound-requires
+    judge-requires
+    enum-known-answer
+    enum-told
+    carry-out-requires
     same-length
-    returns-2
+    returns
     same-length-2
-    returns-3
-    same-length-3
-    returns-4
-    same-length-4
-    returns-5
-    same-length-5
-    returns-6)
+    returns-2)
