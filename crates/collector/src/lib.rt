@@ -1,20 +1,11 @@
-// The public face of a box: fresh, receive, post, retry, stand, cut. Each answers for every input: its promise stands in
-// specs/Promises.antt, what it does in specs/Step.antt of the crate boxes.
+// The public face of a box: fresh, receive, post, retry, stand, cut. Each judges first, over the box as it is, and answers for every input: its
+// promise stands in specs/Promises.antt, what it does in specs/Step.antt of the crate boxes.
 ghost use mathlib.Core.Path.{_≡_};
-ghost use mathlib.Core.Bool.{true};
-ghost use Prim.Native.Nat.{_≤_, _<_};
 ghost use lib.ListN.{length};
-ghost use Rattle.laws.specs.Tray.{onto};
-ghost use Rattle.house.specs.Limits.{leastTray};
-ghost use Rattle.records.specs.Bytes.{encodeAll};
-ghost use Rattle.records.specs.Rules.{valid};
 ghost use Rattle.boxes.specs.Sound.{sound};
-ghost use Rattle.boxes.specs.Out.{resultOf, recordsOf};
-ghost use Rattle.boxes.specs.Orders.{retry, stand};
-ghost use Rattle.boxes.specs.Step.{mayPost};
-ghost use Rattle.keeps.specs.Sends.{Sized};
-ghost use Rattle.keeps.specs.Sound.{Lengths};
-ghost use Rattle.collector.specs.Face.{admission, taken};
+ghost use Rattle.boxes.specs.Orders.{retries};
+ghost use Rattle.boxes.specs.Step.{mayPost, retried, stood};
+ghost use Rattle.collector.specs.Face.{admission, refusal, stands, unlessNo, Allowed, Numbering, Answering, Written};
 ghost use Rattle.collector.specs.Promises.{BoxFresh, BytesReceived, JobRetried, BoxStood, BoxCut, JobPosted};
 use boxes::BoxState;
 use boxes::Delivery;
@@ -22,7 +13,7 @@ use boxes::Outcome;
 use house::BoxNo;
 use plans::Plan;
 use records::Answer;
-use records::Record;
+use sends::Sent;
 
 // what a post answers: it has no box
 pub struct Posted {
@@ -38,11 +29,11 @@ pub fn fresh_box(own: BoxNo) -> BoxState
     boxes::fresh_box(own)
 }
 
-// 1 for plan and box, 2 for the tray; and a box's arrays have their lengths
-fn admit(plan: Plan, x: BoxState, room: usize) -> Answer
-    ensures { λ a. ⌜ (a ≡ admission plan x room) × Lengths x ⌝ }
+// 1 for plan and box, 2 for the tray
+fn admit(known: bool, room: usize) -> Answer
+    ensures { λ a. ⌜ a ≡ admission known room ⌝ }
 {
-    if sound_boxes::is_sound(plan, x) {} else {
+    if known {} else {
         return Answer::No(records::NOT_SOUND);
     }
     if house::LEAST_TRAY <= room {} else {
@@ -51,22 +42,15 @@ fn admit(plan: Plan, x: BoxState, room: usize) -> Answer
     Answer::Done
 }
 
-// a record that the reader took: 5 if it is for another box
-fn take_record(plan: Plan, x: BoxState, r: Record, tray: &mut [u8]) -> Outcome
-    requires { ⌜ (sound plan x ≡ true) × (leastTray ≤ length (now tray)) × (valid plan r ≡ true) × Lengths x × Sized r ⌝ }
-    ensures { λ o. ⌜ (o ≡ resultOf plan x (taken plan x r)) × (now (tray .exit) ≡ onto (encodeAll plan (recordsOf (taken plan x r))) (now (tray .entry))) ⌝ }
+// a refusal: the same box, 0 bytes, no delivery
+fn refused(x: BoxState, n: u8) -> Outcome
+    ensures { λ o. ⌜ o ≡ refusal x n ⌝ }
 {
-    let c = x.core;
-    let own = c.own;
-    let to = r.to;
-    if to.0 == own.0 {
-        return acting::act(plan, x, r, tray);
-    }
     Outcome {
-        answer: Answer::No(records::OTHER_BOX),
+        state: x,
         used: 0,
         records: 0,
-        state: x,
+        answer: Answer::No(n),
         delivery: Delivery::Nothing,
     }
 }
@@ -75,58 +59,47 @@ fn take_record(plan: Plan, x: BoxState, r: Record, tray: &mut [u8]) -> Outcome
 pub fn receive(plan: Plan, x: BoxState, bytes: &[u8], tray: &mut [u8]) -> Outcome
     ensures { λ o. ⌜ BytesReceived plan x (now (bytes .entry)) (now (tray .entry)) o (now (tray .exit)) ⌝ }
 {
-    let first = admit(plan, x, tray.len());
-    match first {
-        Answer::No(n) => Outcome {
-            answer: Answer::No(n),
-            used: 0,
-            records: 0,
-            state: x,
-            delivery: Delivery::Nothing,
-        },
-        Answer::Done => {
-            let got = reader::read_record(plan, bytes);
-            let answer = got.answer;
-            let r = got.rec;
-            match answer {
-                Answer::No(n) => Outcome {
-                    answer: Answer::No(n),
-                    used: 0,
-                    records: 0,
-                    state: x,
-                    delivery: Delivery::Nothing,
-                },
-                Answer::Done => take_record(plan, x, r, tray),
-            }
-        }
+    let known = sound_boxes::is_sound(plan, x);
+    let first = admit(known, tray.len());
+    if let Answer::No(n) = first {
+        return refused(x, n);
     }
+    let j = acting::judge_bytes(plan, x, bytes);
+    let answer = j.answer;
+    if let Answer::No(n) = answer {
+        return refused(x, n);
+    }
+    let r = j.rec;
+    acting::act(plan, x, r, tray)
 }
 
-fn retry_now(plan: Plan, x: BoxState, job: u8, tray: &mut [u8]) -> Outcome
-    requires { ⌜ (sound plan x ≡ true) × (length (encodeAll plan (recordsOf (retry plan x job))) ≤ length (now tray)) ⌝ }
-    ensures { λ o. ⌜ (o ≡ resultOf plan x (retry plan x job)) × (now (tray .exit) ≡ onto (encodeAll plan (recordsOf (retry plan x job))) (now (tray .entry))) ⌝ }
+// the answer to a retry: 1, 2, then its own tests
+fn judge_retry(plan: Plan, known: bool, x: BoxState, job: u8, room: usize) -> Answer
+    requires { ⌜ known ≡ sound plan x ⌝ }
+    ensures { λ a. ⌜ Answering plan x (retried plan x job room) (retries plan x job) room a ⌝ }
 {
-    let answer = delivering::decide_retry(plan, x, job);
+    let first = admit(known, room);
+    if let Answer::No(n) = first {
+        return Answer::No(n);
+    }
+    delivering::decide_retry(plan, x, job)
+}
+
+// the records of a retry that is not refused
+fn send_retry(plan: Plan, x: BoxState, job: u8, answer: Answer, tray: &mut [u8]) -> Sent
+    requires { ⌜ Allowed plan (length (now tray)) answer ⌝ }
+    ensures { λ s. ⌜ Written plan (unlessNo answer (retries plan x job)) (now (tray .entry)) s (now (tray .exit)) ⌝ }
+{
     match answer {
-        Answer::No(n) => Outcome {
-            answer: Answer::No(n),
+        Answer::No(_) => Sent {
             used: 0,
             records: 0,
-            state: x,
-            delivery: Delivery::Nothing,
         },
         Answer::Done => {
             let c = x.core;
             let own = c.own;
             let r = drafting::multicast_record(own, own, job);
-            let s = sends::send(tray, plan, r);
-            Outcome {
-                answer: Answer::Done,
-                used: s.used,
-                records: s.records,
-                state: x,
-                delivery: Delivery::Nothing,
-            }
+            sends::send(tray, plan, r)
         }
     }
 }
@@ -135,44 +108,45 @@ fn retry_now(plan: Plan, x: BoxState, job: u8, tray: &mut [u8]) -> Outcome
 pub fn retry_job(plan: Plan, x: BoxState, job: u8, tray: &mut [u8]) -> Outcome
     ensures { λ o. ⌜ JobRetried plan x job (now (tray .entry)) o (now (tray .exit)) ⌝ }
 {
-    let first = admit(plan, x, tray.len());
-    match first {
-        Answer::No(n) => Outcome {
-            answer: Answer::No(n),
-            used: 0,
-            records: 0,
-            state: x,
-            delivery: Delivery::Nothing,
-        },
-        Answer::Done => retry_now(plan, x, job, tray),
+    let known = sound_boxes::is_sound(plan, x);
+    let answer = judge_retry(plan, known, x, job, tray.len());
+    let s = send_retry(plan, x, job, answer, tray);
+    Outcome {
+        state: x,
+        used: s.used,
+        records: s.records,
+        answer: answer,
+        delivery: Delivery::Nothing,
     }
 }
 
-fn stand_now(plan: Plan, x: BoxState, tray: &mut [u8]) -> Outcome
-    requires { ⌜ (sound plan x ≡ true) × (length (encodeAll plan (recordsOf (stand plan x))) ≤ length (now tray)) ⌝ }
-    ensures { λ o. ⌜ (o ≡ resultOf plan x (stand plan x)) × (now (tray .exit) ≡ onto (encodeAll plan (recordsOf (stand plan x))) (now (tray .entry))) ⌝ }
+// the answer to an order to stand: 1, 2, then its own test
+fn judge_stand(plan: Plan, known: bool, x: BoxState, room: usize) -> Answer
+    requires { ⌜ known ≡ sound plan x ⌝ }
+    ensures { λ a. ⌜ Answering plan x (stood plan x room) (stands plan x) room a × Numbering x a ⌝ }
 {
-    let answer = leading::decide_stand(x);
+    let first = admit(known, room);
+    if let Answer::No(n) = first {
+        return Answer::No(n);
+    }
+    leading::decide_stand(x)
+}
+
+// the records of a box that stands and is not refused
+fn send_stand(plan: Plan, x: BoxState, answer: Answer, tray: &mut [u8]) -> Sent
+    requires { ⌜ Allowed plan (length (now tray)) answer × Numbering x answer ⌝ }
+    ensures { λ s. ⌜ Written plan (unlessNo answer (stands plan x)) (now (tray .entry)) s (now (tray .exit)) ⌝ }
+{
     match answer {
-        Answer::No(n) => Outcome {
-            answer: Answer::No(n),
+        Answer::No(_) => Sent {
             used: 0,
             records: 0,
-            state: x,
-            delivery: Delivery::Nothing,
         },
         Answer::Done => {
             let c = x.core;
             let own = c.own;
             let r = leading::stand_record(x, own);
-            let s = sends::send(tray, plan, r);
-            Outcome {
-                answer: Answer::Done,
-                used: s.used,
-                records: s.records,
-                state: x,
-                delivery: Delivery::Nothing,
-            }
+            sends::send(tray, plan, r)
         }
     }
 }
@@ -181,16 +155,15 @@ fn stand_now(plan: Plan, x: BoxState, tray: &mut [u8]) -> Outcome
 pub fn stand_up(plan: Plan, x: BoxState, tray: &mut [u8]) -> Outcome
     ensures { λ o. ⌜ BoxStood plan x (now (tray .entry)) o (now (tray .exit)) ⌝ }
 {
-    let first = admit(plan, x, tray.len());
-    match first {
-        Answer::No(n) => Outcome {
-            answer: Answer::No(n),
-            used: 0,
-            records: 0,
-            state: x,
-            delivery: Delivery::Nothing,
-        },
-        Answer::Done => stand_now(plan, x, tray),
+    let known = sound_boxes::is_sound(plan, x);
+    let answer = judge_stand(plan, known, x, tray.len());
+    let s = send_stand(plan, x, answer, tray);
+    Outcome {
+        state: x,
+        used: s.used,
+        records: s.records,
+        answer: answer,
+        delivery: Delivery::Nothing,
     }
 }
 
@@ -198,21 +171,15 @@ pub fn stand_up(plan: Plan, x: BoxState, tray: &mut [u8]) -> Outcome
 pub fn cut_off(plan: Plan, x: BoxState) -> Outcome
     ensures { λ o. ⌜ BoxCut plan x o ⌝ }
 {
-    if sound_boxes::is_sound(plan, x) {
-        let y = boxes::cut_box(x);
-        return Outcome {
-            answer: Answer::Done,
-            used: 0,
-            records: 0,
-            state: y,
-            delivery: Delivery::Nothing,
-        };
+    if sound_boxes::is_sound(plan, x) {} else {
+        return refused(x, records::NOT_SOUND);
     }
+    let y = boxes::cut_box(x);
     Outcome {
-        answer: Answer::No(records::NOT_SOUND),
+        state: y,
         used: 0,
         records: 0,
-        state: x,
+        answer: Answer::Done,
         delivery: Delivery::Nothing,
     }
 }

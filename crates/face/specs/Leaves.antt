@@ -28,14 +28,15 @@ use Rattle.boxes.specs.Promise.{Says, Stepped, boxAfter}
 use Rattle.boxes.specs.declared.BoxState.{BoxState}
 use Rattle.boxes.specs.declared.Outcome.{Outcome}
 use Rattle.spelling.specs.Readback.{read-encoded}
+use Rattle.spelling.specs.Round.{parse-arrays}
 use Rattle.keeps.specs.Sound.{Lengths, sound-is}
 use Rattle.keeps.specs.Fresh.{fresh-is-sound, fresh-lengths}
-use Rattle.keeps.specs.Sends.{Every, no-step, a-step, every-guard, AllGood, good-nil}
+use Rattle.keeps.specs.Sends.{Every, no-step, a-step, every-guard, Sized, AllGood, good-nil}
 use Rattle.keeps.specs.Size.{longestOutput}
 use Rattle.keeps.specs.Goods.{Keeps, fits-none}
 use Rattle.keeps.specs.Steps.{takes-every, retried-every, stood-every, cut-off-every, posts-good, posts-fit}
 use Rattle.reach.specs.Boxes.{good-box}
-use Rattle.collector.specs.Face.{parse-sized, sound-plan}
+use Rattle.acting.specs.Judging.{sound-plan}
 use Rattle.collector.specs.Promises.{BoxFresh, BytesReceived, JobRetried, BoxStood, BoxCut, JobPosted}
 use Rattle.collector.specs.declared.Posted.{Posted}
 
@@ -100,7 +101,9 @@ module _ {P : Plan} {x : BoxState} (s : sound P x ≡ true) (L : Lengths x) wher
   received-every : (room : ℕ) (bytes : List ℕ) → Every (Keeps P x) (receives P x room bytes)
   unfolding receives
   received-every room bytes =
-      every-guard (sound P x) _ _ (λ a. every-guard (leb leastTray room) _ _ (λ b. every-guard (shaped P bytes) _ _ (λ c. takes-every P x room (parse P bytes) L (parse-sized P bytes (sound-plan P x s)))))
+      let A = parse-arrays P bytes (sound-plan P x s) in
+      let Z : Sized (parse P bytes) = record { ballots = A .four; stamps = A .two; table = A .many } in
+      every-guard (sound P x) _ _ (λ a. every-guard (leb leastTray room) _ _ (λ b. every-guard (shaped P bytes) _ _ (λ c. takes-every P x room (parse P bytes) L Z)))
 
   -- receive
   receive-leaves : (bytes : List ℕ) {before : List ℕ} {r : Outcome} {after : List ℕ} → BytesReceived P x bytes before r after

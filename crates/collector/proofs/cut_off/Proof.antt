@@ -11,16 +11,21 @@ use Rattle.collector.proofs.cut_off.Tie as tie
 is-sound-requires : tie.Need-is-sound-requires
 is-sound-requires c κs = search needs
 
-cut-box-requires : tie.Need-cut-box-requires
-cut-box-requires c κs = search needs
+refused-requires : tie.Need-refused-requires
+refused-requires c κs = search needs
 
 returns : tie.Need-returns
 unfolding cutOff guard
-returns c = says-result (rw (sym (c .before .before .is-sound .ensures) ∙ c .before .if1 .taken, c .cut-box .ensures, encode-none (c .before .before .before .args .plan)))
+returns c = says-result (rw (sym (c .before .before .is-sound .ensures) ∙ c .before .if1 .left) (c .refused .ensures))
+
+cut-box-requires : tie.Need-cut-box-requires
+cut-box-requires c κs = search needs
 
 returns-2 : tie.Need-returns-2
 unfolding cutOff guard
-returns-2 c = says-result (rw (sym (c .before .is-sound .ensures) ∙ c .if1 .left))
+returns-2 c =
+    let s = c .before .before in
+    says-result (rw (sym (s .is-sound .ensures) ∙ c .before .if1 .taken, c .cut-box .ensures, encode-none (s .before .args .plan)))
 
 pub cut-off-spec : {M : Type 1} → statement M
-cut-off-spec = tie.close (tie.spec is-sound-requires cut-box-requires returns returns-2)
+cut-off-spec = tie.close (tie.spec is-sound-requires refused-requires returns cut-box-requires returns-2)

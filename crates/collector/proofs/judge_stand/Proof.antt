@@ -1,0 +1,34 @@
+-- `collector::judge_stand` meets its contract.
+use Rattle.collector.specs.Face.{stand-no, stand-on}
+use Rattle.leading.specs.Room.{stand-room}
+use Rattle.laws.specs.Choice.{never}
+use Rattle.records.specs.Answers.{isDone}
+use mathlib.Core.Path.{refl, sym, ap, _∙_}
+use borrow.Author.Needs.{needs}
+use Rattle.collector.proofs.judge_stand.Statement.{statement}
+use Rattle.collector.proofs.judge_stand.Tie as tie
+
+admit-requires : tie.Need-admit-requires
+admit-requires c κs = search needs
+
+enum-known-first : tie.Need-enum-known-first
+enum-known-first c = search needs
+
+enum-told : tie.Need-enum-told
+enum-told c = search needs
+
+decide-stand-requires : tie.Need-decide-stand-requires
+decide-stand-requires c κs = search needs
+
+returns : tie.Need-returns
+returns c =
+    let m = c .before .before .before in let s = m .before in let a = s .args in
+    (stand-no (a .plan) (a .x) (s .pre) (sym (m .admit .ensures) ∙ c .before .first .given .1), λ q. never (ap isDone q) refl)
+
+returns-2 : tie.Need-returns-2
+returns-2 c =
+    let m = c .before .before .before in let s = m .before in let a = s .args in let e = c .decide-stand .ensures in
+    (stand-on (a .plan) (a .x) (s .pre) (sym (m .admit .ensures) ∙ c .before .enum-told .given .1) e, λ q. stand-room (a .x) (sym e ∙ q))
+
+pub judge-stand-spec : {M : Type 1} → statement M
+judge-stand-spec = tie.close (tie.spec admit-requires enum-known-first returns enum-told decide-stand-requires returns-2)

@@ -1,0 +1,41 @@
+-- `collector::send_retry` meets its contract.
+use Rattle.collector.specs.Face.{none-written, all-written, retries-sent, retries-fit}
+use Rattle.sends.specs.Sends.{Sends}
+use Rattle.boxes.specs.Orders.{retries}
+use native.Mathlib.Omega.{arith}
+use borrow.Author.Needs.{needs}
+use Rattle.collector.proofs.send_retry.Statement.{statement}
+use Rattle.collector.proofs.send_retry.Tie as tie
+
+enum-told : tie.Need-enum-told
+enum-told c = search needs
+
+enum-told-2 : tie.Need-enum-told-2
+enum-told-2 c = search needs
+
+multicast-record-requires : tie.Need-multicast-record-requires
+multicast-record-requires c κs = search needs
+
+-- the records are those that a send of this one writes
+sent : (c : tie.After-multicast-record) → let a = c .before .before .before .before .before .before .args in
+    Sends (a .plan) (retries (a .plan) (a .x) (a .job)) (c .multicast-record .result)
+sent c = let a = c .before .before .before .before .before .before .args in rw (c .multicast-record .ensures) (retries-sent (a .plan) (a .x) (a .job))
+
+send-requires : tie.Need-send-requires
+send-requires c κs =
+    let d = c .before .before .before .before in let s = d .before .before .before in let a = s .args in let p = s .pre (d .enum-told2 .given .1) in
+    (p .0, rw (← sent (c .before) .bytes) (omega (arith, retries-fit (a .plan) (a .x) (a .job) (p .0), p .1)))
+
+returns : tie.Need-returns
+returns c = none-written _ (c .enum-told .given .1)
+
+same-length : tie.Need-same-length
+same-length c = search needs
+
+returns-2 : tie.Need-returns-2
+returns-2 c =
+    let q = c .before .before .send .ensures in let m = c .before .before .before .before in
+    all-written (m .before .before .before .enum-told2 .given .1) (sent m) (q .0) (q .1) (q .2)
+
+pub send-retry-spec : {M : Type 1} → statement M
+send-retry-spec = tie.close (tie.spec enum-told enum-told-2 multicast-record-requires send-requires returns same-length returns-2)
