@@ -5,7 +5,8 @@ ghost use lib.ListN.{length};
 ghost use Rattle.boxes.specs.Sound.{sound};
 ghost use Rattle.boxes.specs.Orders.{retries};
 ghost use Rattle.boxes.specs.Step.{mayPost, retried, stood};
-ghost use Rattle.collector.specs.Face.{admission, refusal, stands, unlessNo, Allowed, Numbering, Answering, Written};
+ghost use Rattle.acting.specs.Orders.{standing};
+ghost use Rattle.collector.specs.Face.{admission, refusal, unlessNo, Allowed, Numbering, Answering, Written};
 ghost use Rattle.collector.specs.Promises.{BoxFresh, BytesReceived, JobRetried, BoxStood, BoxCut, JobPosted};
 use boxes::BoxState;
 use boxes::Delivery;
@@ -123,7 +124,7 @@ pub fn retry_job(plan: Plan, x: BoxState, job: u8, tray: &mut [u8]) -> Outcome
 // the answer to an order to stand: 1, 2, then its own test
 fn judge_stand(plan: Plan, known: bool, x: BoxState, room: usize) -> Answer
     requires { ⌜ known ≡ sound plan x ⌝ }
-    ensures { λ a. ⌜ Answering plan x (stood plan x room) (stands plan x) room a × Numbering x a ⌝ }
+    ensures { λ a. ⌜ Answering plan x (stood plan x room) (standing plan x) room a × Numbering x a ⌝ }
 {
     let first = admit(known, room);
     if let Answer::No(n) = first {
@@ -135,7 +136,7 @@ fn judge_stand(plan: Plan, known: bool, x: BoxState, room: usize) -> Answer
 // the records of a box that stands and is not refused
 fn send_stand(plan: Plan, x: BoxState, answer: Answer, tray: &mut [u8]) -> Sent
     requires { ⌜ Allowed plan (length (now tray)) answer × Numbering x answer ⌝ }
-    ensures { λ s. ⌜ Written plan (unlessNo answer (stands plan x)) (now (tray .entry)) s (now (tray .exit)) ⌝ }
+    ensures { λ s. ⌜ Written plan (unlessNo answer (standing plan x)) (now (tray .entry)) s (now (tray .exit)) ⌝ }
 {
     match answer {
         Answer::No(_) => Sent {

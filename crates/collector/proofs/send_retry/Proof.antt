@@ -1,5 +1,6 @@
 -- `collector::send_retry` meets its contract.
-use Rattle.collector.specs.Face.{none-written, all-written, retries-sent, retries-fit}
+use Rattle.collector.specs.Face.{none-written, all-written, retries-fit}
+use Rattle.acting.specs.Orders.{retries-sent}
 use Rattle.sends.specs.Sends.{Sends}
 use Rattle.boxes.specs.Orders.{retries}
 use native.Mathlib.Omega.{arith}
@@ -19,7 +20,7 @@ multicast-record-requires c κs = search needs
 -- the records are those that a send of this one writes
 sent : (c : tie.After-multicast-record) → let a = c .before .before .before .before .before .before .args in
     Sends (a .plan) (retries (a .plan) (a .x) (a .job)) (c .multicast-record .result)
-sent c = let a = c .before .before .before .before .before .before .args in rw (c .multicast-record .ensures) (retries-sent (a .plan) (a .x) (a .job))
+sent c = let a = c .before .before .before .before .before .before .args in retries-sent (a .plan) (a .x) (a .job) _ (c .multicast-record .ensures)
 
 send-requires : tie.Need-send-requires
 send-requires c κs =

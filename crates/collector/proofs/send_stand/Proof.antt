@@ -1,5 +1,6 @@
 -- `collector::send_stand` meets its contract.
-use Rattle.collector.specs.Face.{none-written, stands, all-written, stands-sent, stands-fit}
+use Rattle.collector.specs.Face.{none-written, all-written, standing-fits}
+use Rattle.acting.specs.Orders.{standing, standing-sent}
 use Rattle.sends.specs.Sends.{Sends}
 use native.Mathlib.Omega.{arith}
 use borrow.Author.Needs.{needs}
@@ -17,13 +18,13 @@ stand-record-requires c κs = c .before .before .before .before .before .pre .1 
 
 -- the records are those that a send of this one writes
 sent : (c : tie.After-stand-record) → let a = c .before .before .before .before .before .before .args in
-    Sends (a .plan) (stands (a .plan) (a .x)) (c .stand-record .result)
-sent c = let a = c .before .before .before .before .before .before .args in rw (c .stand-record .ensures) (stands-sent (a .plan) (a .x))
+    Sends (a .plan) (standing (a .plan) (a .x)) (c .stand-record .result)
+sent c = let a = c .before .before .before .before .before .before .args in standing-sent (a .plan) (a .x) _ (c .stand-record .ensures)
 
 send-requires : tie.Need-send-requires
 send-requires c κs =
     let d = c .before .before .before .before in let s = d .before .before .before in let a = s .args in let p = s .pre .0 (d .enum-told2 .given .1) in
-    (p .0, rw (← sent (c .before) .bytes) (omega (arith, stands-fit (a .plan) (a .x) (p .0), p .1)))
+    (p .0, rw (← sent (c .before) .bytes) (omega (arith, standing-fits (a .plan) (a .x) (p .0), p .1)))
 
 returns : tie.Need-returns
 returns c = none-written _ (c .enum-told .given .1)
