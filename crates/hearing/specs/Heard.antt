@@ -2,7 +2,6 @@
 use Prim.Native.Nat.{ℕ}
 use mathlib.Core.Bool.{Bool, true, false}
 use mathlib.Core.List.{List, []}
-use lib.ListN.{length}
 use Rattle.laws.specs.Choice.{pick}
 use Rattle.records.specs.Answers.{unreadable}
 use Rattle.records.specs.declared.Answer.{Answer}
@@ -15,7 +14,6 @@ use Rattle.lines.specs.declared.Order as typed
 use Rattle.texts.specs.Texts.{answerText}
 use Rattle.drawing.specs.declared.Desk.{Desk}
 use Rattle.drawing.specs.Desk.{districtsHere, jobHere, withDistricts, withJob, fixedDesk}
-use Rattle.hearing.specs.declared.Heard.{Heard}
 
 -- what a line leaves
 pub record After : Type 0 where
@@ -23,10 +21,6 @@ pub record After : Type 0 where
   pub night : Night
   pub post : List ℕ
   pub text : List ℕ
-
--- as the code answers it: the text stands in the tray, and its length is told
-abbrev pub heardOf : After → Heard
-heardOf a = record { desk = a .desk; night = a .night; used = length (a .text) }
 
 -- `ok N`, the records written, or `no N`, the number of the refusal
 abbrev pub turnText : Answer → ℕ → List ℕ

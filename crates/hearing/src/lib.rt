@@ -1,104 +1,194 @@
-// What the program does with the order of one line: a plan line is drawn, an order is rehearsed, and each is answered.
-// What that is stands in specs/Heard.antt.
-ghost use mathlib.Core.List.{[]};
+// What the program does with the order of one line: a plan line is drawn, an order is judged over its box, and each is answered.
+// What that is stands in specs/Heard.antt, what the code says of it in specs/Hears.antt.
+ghost use mathlib.Core.Bool.{true, false};
+ghost use mathlib.Core.List.{List};
 ghost use mathlib.Core.Path.{_≡_};
-ghost use Prim.Native.Nat.{_≤_};
+ghost use Prim.Native.Nat.{ℕ, _≤_};
 ghost use lib.ListN.{length};
+ghost use Rattle.laws.specs.Choice.{pick};
 ghost use Rattle.laws.specs.Tray.{onto};
+ghost use Rattle.boxes.specs.Sound.{sound};
+ghost use Rattle.posting.specs.Posting.{mostPlace};
+ghost use Rattle.rehearsal.specs.Alone.{Starts};
 ghost use Rattle.texts.specs.Texts.{answerMost};
-ghost use Rattle.hearing.specs.Heard.{heardOf, turnText, unread, passed, planLine, drawn, obeyed, handled};
+ghost use Rattle.hearing.specs.Heard.{unread, planLine};
+ghost use Rattle.hearing.specs.Hears.{askOf, asksOf, settledText, Plain, Obeys, Hears};
+use boxes::BoxState;
 use drawing::Desk;
 use records::Answer;
-use rehearsal::Night;
+use records::Record;
 
-// the desk and the night after a line, and how many bytes of text it gave
+// the desk after a line and how many bytes of text it gave; of an order, whether its box is sound, whether it goes, and the record that the
+// box then takes or sends
 pub struct Heard {
+    pub rec: Record,
     pub desk: Desk,
-    pub night: Night,
-    pub used: usize,
-}
-
-// the answer to an order
-fn say_turn(answer: Answer, records: u16, t: &mut [u8]) -> usize
-    requires { ⌜ answerMost ≤ length (now t) ⌝ }
-    ensures { λ r. ⌜ (r ≤ answerMost) × (r ≡ length (turnText answer records)) × (now (t .exit) ≡ onto (turnText answer records) (now (t .entry))) ⌝ }
-{
-    match answer {
-        Answer::Done => texts::answer_line(false, records as u32, t),
-        Answer::No(n) => texts::answer_line(true, n as u32, t),
-    }
+    pub text: usize,
+    pub known: bool,
+    pub goes: bool,
 }
 
 // a line that is unreadable or misplaced
-fn hear_unread(desk: Desk, night: Night, t: &mut [u8]) -> Heard
+fn hear_unread(desk: Desk, t: &mut [u8]) -> Heard
     requires { ⌜ answerMost ≤ length (now t) ⌝ }
-    ensures { λ r. ⌜ (r .used ≤ answerMost) × (r ≡ heardOf (passed desk night [])) × (now (t .exit) ≡ onto unread (now (t .entry))) ⌝ }
+    ensures { λ r. ⌜ Plain desk unread r (now (t .entry)) (now (t .exit)) ⌝ }
 {
-    let used = texts::answer_line(true, records::UNREADABLE as u32, t);
+    let text = texts::answer_line(true, records::UNREADABLE as u32, t);
+    let none = records::no_record();
     Heard {
+        rec: none,
         desk: desk,
-        night: night,
-        used: used,
+        text: text,
+        known: false,
+        goes: false,
     }
 }
 
 // a plan line: `next` is the desk after it, if it is in place
-fn hear_plan(here: bool, desk: Desk, next: Desk, night: Night, t: &mut [u8]) -> Heard
+fn hear_plan(here: bool, desk: Desk, next: Desk, t: &mut [u8]) -> Heard
     requires { ⌜ answerMost ≤ length (now t) ⌝ }
-    ensures { λ r. ⌜ (r .used ≤ answerMost) × (r ≡ heardOf (drawn here desk next night [])) × (now (t .exit) ≡ onto (planLine here) (now (t .entry))) ⌝ }
+    ensures { λ r. ⌜ Plain (pick here next desk) (planLine here) r (now (t .entry)) (now (t .exit)) ⌝ }
 {
     if here {
+        let none = records::no_record();
         return Heard {
+            rec: none,
             desk: next,
-            night: night,
-            used: 0,
+            text: 0,
+            known: false,
+            goes: false,
         };
     }
-    hear_unread(desk, night, t)
+    hear_unread(desk, t)
 }
 
-// an order: it fixes the plan, and is carried out or refused
-fn obey(desk: Desk, night: Night, order: rehearsal::Order, post: &mut [u8], t: &mut [u8]) -> Heard
-    requires { ⌜ answerMost ≤ length (now t) ⌝ }
-    ensures { λ r. ⌜ (r .used ≤ answerMost) × (r ≡ heardOf (obeyed desk night (now (post .entry)) order)) × (now (post .exit) ≡ obeyed desk night (now (post .entry)) order .post) × (now (t .exit) ≡ onto (obeyed desk night (now (post .entry)) order .text) (now (t .entry))) ⌝ }
+// an order fixes the plan, and is refused or goes
+fn hear_order(
+    desk: Desk,
+    known: bool,
+    used: usize,
+    x: BoxState,
+    order: rehearsal::Order,
+    start: usize,
+    post: &[u8],
+    t: &mut [u8],
+) -> Heard
+    requires { ⌜ (answerMost ≤ length (now t)) × (known ≡ true → sound (desk .plan) x ≡ true) × (start ≤ mostPlace) × Starts (desk .plan) (now post) used order start ⌝ }
+    ensures { λ r. ⌜ Obeys desk used x (now (post .entry)) order r (now (t .entry)) (now (t .exit)) ⌝ }
 {
     let plan = desk.plan;
-    let turn = rehearsal::rehearse(plan, night, order, post);
-    let answer = turn.answer;
-    let used = say_turn(answer, turn.records, t);
-    let after = turn.night;
-    Heard {
-        desk: drawing::fix(desk),
-        night: after,
-        used: used,
+    let sure = rehearsal::known_sound(plan, known, x);
+    let j = rehearsal::judge(plan, sure, used, x, order, start, post);
+    let answer = j.answer;
+    let r = j.rec;
+    let fixed = drawing::fix(desk);
+    match answer {
+        Answer::No(n) => {
+            let text = texts::answer_line(true, n as u32, t);
+            Heard {
+                rec: r,
+                desk: fixed,
+                text: text,
+                known: sure,
+                goes: false,
+            }
+        }
+        Answer::Done => Heard {
+            rec: r,
+            desk: fixed,
+            text: 0,
+            known: sure,
+            goes: true,
+        },
     }
 }
 
-// whatever a line says
-pub fn hear(desk: Desk, night: Night, order: lines::Order, post: &mut [u8], t: &mut [u8]) -> Heard
-    requires { ⌜ answerMost ≤ length (now t) ⌝ }
-    ensures { λ r. ⌜ (r .used ≤ answerMost) × (r ≡ heardOf (handled desk night (now (post .entry)) order)) × (now (post .exit) ≡ handled desk night (now (post .entry)) order .post) × (now (t .exit) ≡ onto (handled desk night (now (post .entry)) order .text) (now (t .entry))) ⌝ }
+// the order as the rehearsal knows it; a plan line asks no box, and the first will do
+pub fn order_of(order: lines::Order) -> rehearsal::Order
+    ensures { λ r. ⌜ r ≡ askOf order ⌝ }
+{
+    match order {
+        lines::Order::Districts(g) => rehearsal::Order::Post(0),
+        lines::Order::Job(m) => rehearsal::Order::Post(0),
+        lines::Order::Post(j) => rehearsal::Order::Post(j),
+        lines::Order::Stand(p) => rehearsal::Order::Stand(p),
+        lines::Order::Retry(p, j) => rehearsal::Order::Retry(p, j),
+        lines::Order::Cut(p) => rehearsal::Order::Cut(p),
+        lines::Order::Carry(k) => rehearsal::Order::Carry(k),
+        lines::Order::Unreadable => rehearsal::Order::Post(0),
+    }
+}
+
+// whether a line is an order, as far as the plan is concerned
+fn is_order(order: lines::Order) -> bool
+    ensures { λ r. ⌜ r ≡ asksOf order ⌝ }
+{
+    match order {
+        lines::Order::Districts(g) => false,
+        lines::Order::Job(m) => false,
+        lines::Order::Post(j) => true,
+        lines::Order::Stand(p) => true,
+        lines::Order::Retry(p, j) => true,
+        lines::Order::Cut(p) => true,
+        lines::Order::Carry(k) => true,
+        lines::Order::Unreadable => false,
+    }
+}
+
+// a line that is no order
+fn hear_plain(desk: Desk, order: lines::Order, t: &mut [u8]) -> Heard
+    requires { ⌜ (answerMost ≤ length (now t)) × (asksOf order ≡ false) ⌝ }
+    ensures { λ r. ⌜ ((used : ℕ) (x : BoxState) (s : List ℕ) → Hears desk used x s order r (now (t .entry)) (now (t .exit))) ⌝ }
 {
     match order {
         lines::Order::Districts(g) => hear_plan(
             drawing::districts_here(desk),
             desk,
             drawing::with_districts(desk, g),
-            night,
             t,
         ),
         lines::Order::Job(m) => hear_plan(
             drawing::job_here(desk),
             desk,
             drawing::with_job(desk, m),
-            night,
             t,
         ),
-        lines::Order::Post(j) => obey(desk, night, rehearsal::Order::Post(j), post, t),
-        lines::Order::Stand(p) => obey(desk, night, rehearsal::Order::Stand(p), post, t),
-        lines::Order::Retry(p, j) => obey(desk, night, rehearsal::Order::Retry(p, j), post, t),
-        lines::Order::Cut(p) => obey(desk, night, rehearsal::Order::Cut(p), post, t),
-        lines::Order::Carry(k) => obey(desk, night, rehearsal::Order::Carry(k), post, t),
-        lines::Order::Unreadable => hear_unread(desk, night, t),
+        lines::Order::Unreadable => hear_unread(desk, t),
+        lines::Order::Post(j) => hear_unread(desk, t),
+        lines::Order::Stand(p) => hear_unread(desk, t),
+        lines::Order::Retry(p, j) => hear_unread(desk, t),
+        lines::Order::Cut(p) => hear_unread(desk, t),
+        lines::Order::Carry(k) => hear_unread(desk, t),
     }
+}
+
+// whatever a line says, to the box that it asks
+pub fn hear(
+    desk: Desk,
+    known: bool,
+    used: usize,
+    x: BoxState,
+    order: lines::Order,
+    start: usize,
+    post: &[u8],
+    t: &mut [u8],
+) -> Heard
+    requires { ⌜ (answerMost ≤ length (now t)) × (known ≡ true → sound (desk .plan) x ≡ true) × (start ≤ mostPlace) × Starts (desk .plan) (now post) used (askOf order) start ⌝ }
+    ensures { λ r. ⌜ Hears desk used x (now (post .entry)) order r (now (t .entry)) (now (t .exit)) ⌝ }
+{
+    if is_order(order) {
+        return hear_order(desk, known, used, x, order_of(order), start, post, t);
+    }
+    hear_plain(desk, order, t)
+}
+
+// the answer to an order whose box has stepped
+pub fn say_settled(fits: bool, records: u16, t: &mut [u8]) -> usize
+    requires { ⌜ answerMost ≤ length (now t) ⌝ }
+    ensures { λ r. ⌜ (r ≤ answerMost) × (r ≡ length (settledText fits records)) × (now (t .exit) ≡ onto (settledText fits records) (now (t .entry))) ⌝ }
+{
+    if fits {
+        return texts::answer_line(false, records as u32, t);
+    }
+    texts::answer_line(true, records::POST_FULL as u32, t)
 }

@@ -1,20 +1,23 @@
 -- `hearing::hear_plan` meets its contract.
+use Rattle.hearing.specs.Hears.{plain-as}
+use Rattle.hearing.specs.Heard.{planLine}
+use Rattle.laws.specs.Choice.{pick, pick-true, pick-false}
+use Rattle.laws.specs.Tray.{onto-nil}
 use mathlib.Core.List.{[]}
-use Rattle.hearing.specs.Heard.{heardOf, planLine, drawn}
-use Rattle.laws.specs.Tray.{onto, onto-nil}
-use Rattle.laws.specs.Choice.{pick}
-use mathlib.Core.Bool.{Bool, true, false}
-use mathlib.Core.Path.{_≡_, sym, ap, _∙_}
+use mathlib.Core.Path.{refl, sym}
 use borrow.Author.Needs.{needs}
 use Rattle.hearing.proofs.hear_plan.Statement.{statement}
 use Rattle.hearing.proofs.hear_plan.Tie as tie
 
+no-record-requires : tie.Need-no-record-requires
+no-record-requires c κs = search needs
+
 returns : tie.Need-returns
-unfolding planLine pick
+unfolding planLine
 returns c =
-    let a = c .before .before .args in
-    let e : a .here ≡ true = c .if1 .taken in
-    (search needs, ap (λ (h : Bool). heardOf (drawn h (a .desk) (a .next) (a .night) [])) (sym e), sym (onto-nil (a .t .now)) ∙ ap (λ (h : Bool). onto (planLine h) (a .t .now)) (sym e))
+    let a = c .before .before .before .args in let h = c .before .if1 .taken in
+    plain-as (sym (pick-true (a .next) (a .desk) h)) (sym (pick-true [] _ h))
+    (record { says = record { desk-is = refl; long = refl; most = search needs; text-is = sym (onto-nil (a .t .now)) }; stays = refl; unknown = refl })
 
 hear-unread-requires : tie.Need-hear-unread-requires
 hear-unread-requires c κs = search needs
@@ -23,12 +26,10 @@ same-length : tie.Need-same-length
 same-length c = search needs
 
 returns-2 : tie.Need-returns-2
-unfolding planLine pick
+unfolding planLine
 returns-2 c =
-    let a = c .before .before .before .before .before .before .args in
-    let e : a .here ≡ false = c .before .before .before .before .if1 .left in
-    let q = c .before .before .hear-unread in
-    (q .ensures .0, q .ensures .1 ∙ ap (λ (h : Bool). heardOf (drawn h (a .desk) (a .next) (a .night) [])) (sym e), q .ensures .2 ∙ ap (λ (h : Bool). onto (planLine h) (a .t .now)) (sym e))
+    let a = c .before .before .before .before .before .before .args in let h = c .before .before .before .before .if1 .left in
+    plain-as (sym (pick-false (a .next) (a .desk) h)) (sym (pick-false [] _ h)) (c .before .before .hear-unread .ensures)
 
 pub hear-plan-spec : {M : Type 1} → statement M
-hear-plan-spec = tie.close (tie.spec returns hear-unread-requires same-length returns-2)
+hear-plan-spec = tie.close (tie.spec no-record-requires returns hear-unread-requires same-length returns-2)
