@@ -1,9 +1,12 @@
 // The session of the rehearse program: bytes of its input in, bytes of text out. What it promises stands in specs/Promises.antt.
 // Text trays are arrays with room for the longest answer, so nobody has to ask whether the text fits.
-ghost use Prim.Native.Nat.{_*_, _≤_};
-ghost use lib.ListN.{length};
+ghost use mathlib.Core.List.{List};
+ghost use mathlib.Core.Path.{_≡_};
+ghost use Prim.Native.Nat.{ℕ, _*_, _≤_, _<_};
+ghost use lib.ListN.{length, getD, take};
+ghost use Rattle.words.specs.Parts.{lineFeed};
 ghost use Rattle.texts.specs.Texts.{answerMost};
-ghost use Rattle.sessions.specs.Session.{lineOf, chunkOf};
+ghost use Rattle.sessions.specs.Session.{chunkOf};
 ghost use Rattle.sessions.specs.Promises.{Begun, Leaves, ChunkFed, LastFed};
 use drawing::Desk;
 use lines::LineState;
@@ -12,15 +15,15 @@ use rehearsal::Night;
 // the room of one answer, the bytes of input that are read at once, and the room of their answers: at most one for each byte
 pub const ANSWER_ROOM: usize = 14;
 
-pub const CHUNK: usize = 256;
+pub const CHUNK: usize = 2048;
 
 pub const CHUNK_ROOM: usize = ANSWER_ROOM * CHUNK;
 
 // the line that is coming, the plan and the night
 pub struct Session {
-    pub line: LineState,
-    pub desk: Desk,
     pub night: Night,
+    pub desk: Desk,
+    pub line: LineState,
 }
 
 // the session after some input, and how many bytes of text it gave
@@ -29,61 +32,120 @@ pub struct Fed {
     pub used: usize,
 }
 
+// the line after some bytes, and the place of the LF that ends it, or the end of the bytes
+struct Scan {
+    line: LineState,
+    at: usize,
+}
+
 // nothing is read
 pub fn fresh_session() -> Session
     ensures { λ r. ⌜ Begun r ⌝ }
 {
     Session {
-        line: lines::no_line(),
-        desk: drawing::empty_desk(),
         night: rehearsal::fresh_night(),
+        desk: drawing::empty_desk(),
+        line: lines::no_line(),
     }
 }
 
-// a line has ended
-fn end_line(s: Session, post: &mut [u8], t: &mut [u8]) -> Fed
-    requires { ⌜ answerMost ≤ length (now t) ⌝ }
-    ensures { λ r. ⌜ (r .used ≤ answerMost) × Leaves (lineOf s (now (post .entry))) (now (t .entry)) r (now (post .exit)) (now (t .exit)) ⌝ }
+// the rest of a line, up to its LF or the end of the chunk
+fn read_on(line: LineState, chunk: &[u8], from: usize) -> Scan
+    requires { ⌜ from ≤ length (now chunk) ⌝ }
+    ensures { λ r. ⌜ (from ≤ r .at) × (r .at ≤ length (now (chunk .entry))) × (r .at < length (now (chunk .entry)) → getD (now (chunk .entry)) (r .at) 0 ≡ lineFeed) × ((s : Session) (post : List ℕ) → chunkOf s post (take from (now (chunk .entry))) .line ≡ line → chunkOf s post (take (r .at) (now (chunk .entry))) ≡ record { line = r .line; state = chunkOf s post (take from (now (chunk .entry))) .state }) ⌝ }
 {
-    let line = s.line;
-    let desk = s.desk;
-    let night = s.night;
-    let h = hearing::hear(desk, night, lines::order_held(line), post, t);
-    let after = h.desk;
-    let next = h.night;
-    Fed {
-        session: Session {
-            line: lines::no_line(),
-            desk: after,
-            night: next,
-        },
-        used: h.used,
+    let n = chunk.len();
+    let mut cur = line;
+    for i in from..n {
+        let byte = chunk[i];
+        if byte == b'\n' {
+            return Scan { line: cur, at: i };
+        }
+        cur = lines::push(cur, byte);
     }
+    Scan { line: cur, at: n }
 }
 
-// some bytes of the input, with room for an answer to each
+// some bytes of the input, line by line, with room for an answer to each. The boxes stand here as one array, and an order takes one of
+// them; a box that a step left sound is not tested again, and where a record begins is found once
 fn feed_into(s: Session, chunk: &[u8], post: &mut [u8], t: &mut [u8]) -> Fed
     requires { ⌜ answerMost * length (now chunk) ≤ length (now t) ⌝ }
     ensures { λ r. ⌜ Leaves (chunkOf s (now (post .entry)) (now (chunk .entry))) (now (t .entry)) r (now (post .exit)) (now (t .exit)) ⌝ }
 {
-    let mut cur = s;
-    let mut used = 0;
-    for i in 0..chunk.len() {
-        let byte = chunk[i];
-        if byte == b'\n' {
-            let f = end_line(cur, post, &mut t[used..]);
-            let next = f.session;
-            cur = next;
-            used += f.used;
-        } else {
-            let held = cur.line;
-            let line = lines::push(held, byte);
-            cur.line = line;
+    let night = s.night;
+    let mut boxes = night.boxes;
+    let mut used = night.used;
+    let mut desk = s.desk;
+    let mut line = s.line;
+    let mut known = [false; rehearsal::MOST_BOXES];
+    let mut index = [0u16; posting::INDEX_ROOM];
+    let mut tray = [0u8; house::LEAST_TRAY];
+    let mut count = 0;
+    let mut text = 0;
+    let mut from = 0;
+    while from < chunk.len() {
+        let scan = read_on(line, chunk, from);
+        let end = scan.at;
+        let whole = scan.line;
+        if chunk.len() <= end {
+            return Fed {
+                session: Session {
+                    night: Night {
+                        boxes: boxes,
+                        used: used,
+                    },
+                    desk: desk,
+                    line: whole,
+                },
+                used: text,
+            };
+        }
+        let typed = lines::order_held(whole);
+        let order = hearing::order_of(typed);
+        let plan = desk.plan;
+        let place = rehearsal::find(plan, desk.fixed, used, order, post, &mut index, count);
+        let at = place.at;
+        let x = boxes[at];
+        let sure = known[at];
+        let h = hearing::hear(
+            desk,
+            sure,
+            used,
+            x,
+            typed,
+            place.start,
+            post,
+            &mut t[text..],
+        );
+        let next = h.desk;
+        desk = next;
+        known[at] = h.known;
+        count = place.count;
+        text += h.text;
+        line = lines::no_line();
+        from = end + 1;
+        if h.goes {
+            let r = h.rec;
+            let out = rehearsal::step(plan, x, order, r, &mut tray);
+            let v = rehearsal::settle(used, out.used, &tray, post);
+            used = v.used;
+            text += hearing::say_settled(v.fits, out.records, &mut t[text..]);
+            if v.fits {
+                let y = out.state;
+                boxes[at] = y;
+            }
         }
     }
     Fed {
-        session: cur,
-        used: used,
+        session: Session {
+            night: Night {
+                boxes: boxes,
+                used: used,
+            },
+            desk: desk,
+            line: line,
+        },
+        used: text,
     }
 }
 
@@ -113,5 +175,5 @@ pub fn last_line(s: Session, post: &mut [u8], t: &mut [u8; ANSWER_ROOM]) -> Fed
             used: 0,
         };
     }
-    end_line(s, post, t)
+    feed_into(s, b"\n", post, t)
 }

@@ -35,9 +35,9 @@ returns c =
     let q = c .before .before .feed-into .ensures in
     let k = c .before .before .before .before .before .before .before .within in
     let l = a .chunk .now in
-    let m : length l ≡ 256 = search needs in
+    let m : length l ≡ 2048 = search needs in
     let z : k .result - 0 ≡ k .result = omega arith in
-    let e : take (k .result - 0) l ≡ take (a .n) l = ap (λ (n : ℕ). take n l) (z ∙ k .ensures .0) ∙ take-within (a .n) 256 l (omega arith) in
+    let e : take (k .result - 0) l ≡ take (a .n) l = ap (λ (n : ℕ). take n l) (z ∙ k .ensures .0) ∙ take-within (a .n) 2048 l (omega arith) in
     let v : chunkOf (a .s) (a .post .now) (take (k .result - 0) l) ≡ chunkOf (a .s) (a .post .now) (take (a .n) l) = ap (chunkOf (a .s) (a .post .now)) e in
     record { fed = q .fed ∙ ap fedOf v; post = q .post ∙ ap (λ (r : Reading World). r .state .post) v; text = q .text ∙ ap (λ (r : Reading World). onto (r .state .text) (a .t .now)) v }
 

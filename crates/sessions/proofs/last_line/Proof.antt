@@ -1,9 +1,12 @@
 -- `sessions::last_line` meets its contract.
-use Rattle.sessions.specs.Session.{World, fedOf, lineOf, lastOf, within}
+use Rattle.sessions.specs.Session.{World, fedOf, chunkOf, lastOf, within}
+use Rattle.sessions.specs.Lines.{byte-ends}
 use Rattle.lines.specs.Feed.{Reading}
+use Rattle.words.specs.Parts.{lineFeed}
 use Rattle.laws.specs.Tray.{onto, onto-nil}
 use Rattle.laws.specs.Choice.{pick-true, pick-false}
 use borrow.Author.Tests.{eq-eqb, ne-eqb}
+use mathlib.Core.List.{[], _∷_}
 use mathlib.Core.Path.{_≡_, sym, ap, _∙_}
 use borrow.Author.Needs.{needs}
 use Rattle.sessions.proofs.last_line.Statement.{statement}
@@ -16,8 +19,11 @@ returns c =
     let v : within (a .s) (a .post .now) ≡ lastOf (a .s) (a .post .now) = sym (pick-true _ _ (eq-eqb _ _ (c .if1 .taken))) in
     record { fed = ap fedOf v; post = ap (λ (r : Reading World). r .state .post) v; text = sym (onto-nil (a .t .now)) ∙ ap (λ (r : Reading World). onto (r .state .text) (a .t .now)) v }
 
-end-line-requires : tie.Need-end-line-requires
-end-line-requires c κs = search needs
+slice-aggregate-feed-into : tie.Need-slice-aggregate-feed-into
+slice-aggregate-feed-into c = search needs
+
+feed-into-requires : tie.Need-feed-into-requires
+feed-into-requires c κs = search needs
 
 same-length : tie.Need-same-length
 same-length c = search needs
@@ -25,10 +31,10 @@ same-length c = search needs
 returns-2 : tie.Need-returns-2
 unfolding lastOf
 returns-2 c =
-    let a = c .before .before .before .before .before .before .before .before .before .args in
-    let q = c .before .before .end-line .ensures .1 in
-    let v : lineOf (a .s) (a .post .now) ≡ lastOf (a .s) (a .post .now) = sym (pick-false _ _ (ne-eqb _ _ (c .before .before .before .before .before .if1 .left))) in
+    let a = c .before .before .before .before .before .before .before .before .before .before .args in let q = c .before .before .feed-into .ensures in
+    let v : chunkOf (a .s) (a .post .now) (lineFeed ∷ []) ≡ lastOf (a .s) (a .post .now) =
+    byte-ends (within (a .s) (a .post .now)) ∙ sym (pick-false _ _ (ne-eqb _ _ (c .before .before .before .before .before .before .if1 .left))) in
     record { fed = q .fed ∙ ap fedOf v; post = q .post ∙ ap (λ (r : Reading World). r .state .post) v; text = q .text ∙ ap (λ (r : Reading World). onto (r .state .text) (a .t .now)) v }
 
 pub last-line-spec : {M : Type 1} → statement M
-last-line-spec = tie.close (tie.spec returns end-line-requires same-length returns-2)
+last-line-spec = tie.close (tie.spec returns slice-aggregate-feed-into feed-into-requires same-length returns-2)
