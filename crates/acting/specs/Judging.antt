@@ -4,7 +4,7 @@ use mathlib.Core.Bool.{Bool, true, false, _&&_}
 use mathlib.Core.List.{List}
 use mathlib.Core.Path.{_≡_, refl, sym, ap, _∙_}
 use native.Mathlib.Omega.{arith}
-use lib.ListN.{length, length-append, length-replicate, replicate, drop, getD}
+use lib.ListN.{length-append, length-replicate, replicate, drop, getD}
 use lib.Dec.{leb, eqb}
 use borrow.Author.Tests.{le-leb, leb-true}
 use Rattle.laws.specs.Choice.{and-left, and-right}

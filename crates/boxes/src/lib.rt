@@ -62,10 +62,10 @@ pub enum Delivery {
 
 // done: the new box, the bytes and records written, and the job delivered; refused: the same box, 0 bytes, nothing
 pub struct Outcome {
-    pub answer: Answer,
+    pub state: BoxState,
     pub used: usize,
     pub records: u16,
-    pub state: BoxState,
+    pub answer: Answer,
     pub delivery: Delivery,
 }
 

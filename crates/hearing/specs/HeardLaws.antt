@@ -15,7 +15,7 @@ use Rattle.rehearsal.specs.Night.{given}
 use Rattle.rehearsal.specs.Promises.{OrderRehearsed, turn-is}
 use Rattle.drawing.specs.declared.Desk.{Desk}
 use Rattle.drawing.specs.Desk.{fixedDesk}
-use Rattle.hearing.specs.Heard.{After, turnText, obeyed}
+use Rattle.hearing.specs.Heard.{turnText, obeyed}
 
 -- an order, from what the rehearsal promised
 pub obeyed-is : (d : Desk) {n : Night} {s : List ℕ} {o : Order} {t : Turn} {after : List ℕ} → OrderRehearsed (d .plan) n s o t after

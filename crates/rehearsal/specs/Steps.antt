@@ -19,7 +19,7 @@ use Rattle.records.specs.declared.Answer.the-variants.{Done, No}
 use Rattle.records.specs.declared.Record.{Record}
 use Rattle.posting.specs.Posting.{lengthAt, startOf, bytesFrom, toBox, part-from}
 use Rattle.boxes.specs.Sound.{sound}
-use Rattle.boxes.specs.Out.{Out, refused, does, guard, recordsOf}
+use Rattle.boxes.specs.Out.{Out, refused, does, recordsOf}
 use Rattle.boxes.specs.Orders.{posts, retries, retry, stand, cut}
 use Rattle.boxes.specs.Promise.{wasDone, boxAfter}
 use Rattle.boxes.specs.Step.{react, receives, retried, stood, cutOff}

@@ -19,9 +19,9 @@ fn one_turn(s: Session, post: &mut [u8]) -> Going
     let n = io::count(got, &input);
     let mut out = [0u8; sessions::CHUNK_ROOM];
     let f = sessions::feed_chunk(s, &input, n, post, &mut out);
-    let after = f.session;
     let used = f.used;
     let written = io::write_all(1, &out[0..used]);
+    let after = f.session;
     Going {
         session: after,
         next: printing::next_of(got, written),

@@ -2,7 +2,7 @@
 use Prim.Native.Nat.{ℕ, _+_, _-_, _*_, _≤_, _<_}
 use mathlib.Core.Bool.{Bool, true, false}
 use mathlib.Core.List.{List, [], _++_, append-nil}
-use mathlib.Core.Path.{_≡_, refl, sym, ap, _∙_}
+use mathlib.Core.Path.{_≡_, sym, ap, _∙_}
 use native.Mathlib.Omega.{arith}
 use lib.ListN.{length, getD, set, take, length-set}
 use borrow.Rule.Slice.PartMut.{midOf, putMid}
@@ -13,7 +13,6 @@ use Rattle.records.specs.Answers.{postFull}
 use Rattle.records.specs.Bytes.{encodeAll}
 use Rattle.records.specs.declared.Answer.the-variants.{Done, No}
 use Rattle.boxes.specs.Out.{resultOf, recordsOf}
-use Rattle.boxes.specs.Promise.{boxAfter}
 use Rattle.boxes.specs.Sound.{sound}
 use Rattle.boxes.specs.declared.BoxState.{BoxState}
 use Rattle.boxes.specs.declared.Outcome.{Outcome}
@@ -32,7 +31,7 @@ use Rattle.rehearsal.specs.declared.Place.{Place}
 use Rattle.rehearsal.specs.declared.Settled.{Settled}
 use Rattle.drawing.specs.declared.Desk.{Desk}
 use Rattle.drawing.specs.Desk.{fixedDesk}
-use Rattle.hearing.specs.Heard.{After, turnText, obeyed, handled}
+use Rattle.hearing.specs.Heard.{After, turnText, handled}
 use Rattle.hearing.specs.HeardLaws.{obeyed-is}
 use Rattle.hearing.specs.Hears.{askOf, settledText, Hears}
 use Rattle.hearing.specs.declared.Heard.{Heard}

@@ -1,6 +1,5 @@
 -- `hearing::hear` meets its contract.
-use Rattle.hearing.specs.Hears.{hears-order, asks-obeyed, askOf, Obeys}
-use Rattle.rehearsal.specs.Alone.{Starts}
+use Rattle.hearing.specs.Hears.{hears-order, asks-obeyed}
 use mathlib.Core.Path.{sym, _∙_}
 use borrow.Author.Needs.{needs}
 use Rattle.hearing.proofs.hear.Statement.{statement}

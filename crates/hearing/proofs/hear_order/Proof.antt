@@ -1,8 +1,5 @@
 -- `hearing::hear_order` meets its contract.
-use Rattle.texts.specs.Texts.{answerMost}
-use Prim.Native.Nat.{_≤_}
-use native.Mathlib.Omega.{arith}
-use mathlib.Core.Path.{_≡_, refl, sym}
+use mathlib.Core.Path.{refl}
 use Rattle.laws.specs.Choice.{never}
 use borrow.Author.Needs.{needs}
 use Rattle.hearing.proofs.hear_order.Statement.{statement}

@@ -1,7 +1,7 @@
 -- `hearing::hear_plan` meets its contract.
 use Rattle.hearing.specs.Hears.{plain-as}
 use Rattle.hearing.specs.Heard.{planLine}
-use Rattle.laws.specs.Choice.{pick, pick-true, pick-false}
+use Rattle.laws.specs.Choice.{pick-true, pick-false}
 use Rattle.laws.specs.Tray.{onto-nil}
 use mathlib.Core.List.{[]}
 use mathlib.Core.Path.{refl, sym}

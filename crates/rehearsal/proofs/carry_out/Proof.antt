@@ -2,7 +2,6 @@
 use Rattle.rehearsal.specs.Alone.{Stands}
 use Rattle.rehearsal.specs.Settled.{wrote, turned-does, turned-full}
 use Rattle.rehearsal.specs.Steps.{Goes, stepOf}
-use mathlib.Core.Path.{_≡_}
 use borrow.Author.Needs.{needs}
 use Rattle.rehearsal.proofs.carry_out.Statement.{statement}
 use Rattle.rehearsal.proofs.carry_out.Tie as tie

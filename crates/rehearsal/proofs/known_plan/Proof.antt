@@ -1,5 +1,5 @@
 -- `rehearsal::known_plan` meets its contract.
-use mathlib.Core.Path.{sym, _∙_}
+use mathlib.Core.Path.{sym}
 use borrow.Author.Needs.{needs}
 use Rattle.rehearsal.proofs.known_plan.Statement.{statement}
 use Rattle.rehearsal.proofs.known_plan.Tie as tie

@@ -5,10 +5,9 @@ use Rattle.rehearsal.specs.Settled.{rehearsed-no}
 use Rattle.rehearsal.specs.Steps.{Judges}
 use Rattle.posting.specs.Index.{indexed-none}
 use Rattle.laws.specs.Choice.{never}
-use Prim.Native.Nat.{ℕ}
 use native.Mathlib.Omega.{arith}
 use mathlib.Core.List.{[], _∷_}
-use mathlib.Core.Path.{_≡_, refl, _∙_}
+use mathlib.Core.Path.{refl, _∙_}
 use borrow.Author.Needs.{needs}
 use Rattle.rehearsal.proofs.rehearse.Statement.{statement}
 use Rattle.rehearsal.proofs.rehearse.Tie as tie

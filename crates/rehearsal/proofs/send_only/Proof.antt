@@ -1,6 +1,4 @@
 -- `rehearsal::send_only` meets its contract.
-use Rattle.laws.specs.Tray.{onto}
-use mathlib.Core.Path.{ap, _∙_}
 use borrow.Author.Needs.{needs}
 use Rattle.rehearsal.proofs.send_only.Statement.{statement}
 use Rattle.rehearsal.proofs.send_only.Tie as tie

@@ -35,7 +35,7 @@ part-write-all-start c = search needs
 
 part-write-all-end : tie.Need-part-write-all-end
 part-write-all-end c =
-    let f = c .before .before .before .before .feed-chunk in text-fits _ _ _ (f .result .used) (ap (λ (x : Fed). x .used) (f .ensures .fed)) (f .ensures .text)
+    let f = c .before .before .before .feed-chunk in text-fits _ _ _ (f .result .used) (ap (λ (x : Fed). x .used) (f .ensures .fed)) (f .ensures .text)
 
 write-all-requires : tie.Need-write-all-requires
 write-all-requires c κs = search needs
@@ -54,7 +54,7 @@ returns c =
     let tray = q .last .1 .0 in
     let e = ap (λ (n : ℕ). chunkOf (a .s) (a .post .now) (take n tray)) (c .before .before .before .before .before .before .before .before .before .before .before .count .ensures .1) in
     record {
-      turn = record { got = toZ w64 (ofZ w64 (q .result)); tray = tray; written = c .before .write-all .result };
+      turn = record { got = toZ w64 (ofZ w64 (q .result)); tray = tray; written = c .before .before .write-all .result };
       decided = c .next-of .ensures;
       session = ap (λ (x : Fed). x .session) (f .fed) ∙ ap sessionOf e;
       post = f .post ∙ ap (λ (r : Reading World). r .state .post) e;

@@ -1,5 +1,5 @@
 -- `sessions::feed_into` meets its contract.
-use Prim.Native.Nat.{ℕ, _+_, _-_, _*_, _≤_, _<_}
+use Prim.Native.Nat.{_-_, _*_, _≤_, _<_}
 use Rattle.sessions.specs.Lines.{fed-is, holds-on, none-known}
 use Rattle.sessions.specs.Reading.{Reads, passes, steps, full}
 use Rattle.sessions.specs.Session.{World, chunkOf, fedOf}

@@ -2,7 +2,7 @@
 use Prim.Native.Nat.{ℕ, _-_, _≤_, _<_}
 use Rattle.sessions.specs.declared.Session.{Session}
 use Rattle.sessions.specs.Lines.{line-as, held-on}
-use Rattle.sessions.specs.Session.{World, chunkOf}
+use Rattle.sessions.specs.Session.{chunkOf}
 use Rattle.lines.specs.declared.LineState.{LineState}
 use Rattle.lines.specs.ReadLaws.{byte-is}
 use Rattle.words.specs.Parts.{lineFeed}
