@@ -1,7 +1,7 @@
 #!/usr/bin/env python3
 """Prints a long session for timing the rehearse program.
 
-    bench/long.py [ORDERS] > long.in        (100,000 orders if not given)
+    bench/long.py [ORDERS [KIND]] > long.in        (100,000 orders, mixed, if not given)
 
 First an orderly evening over four districts and 64 jobs, whose record numbers
 follow from the rules: districts 0 to 2 elect a leader, district 3 only has a
@@ -10,6 +10,10 @@ for district 3. Then the records of that evening are carried again and again.
 About half of these carries are done (ACCEPTs that wait, votes after a cut, and
 a few that write records until the post is full) and half are refused.
 The session is the same each time.
+
+That is the kind mixed. In the kind smooth nearly all carries are done, in the
+kind refused nearly all are refused, and in the kind garbage nine lines of ten
+are no orders.
 """
 import random
 import sys
@@ -80,17 +84,33 @@ def evening():
     return refused + list(asked), waiting, writing, votes
 
 
-def night(rng, count, refused, waiting, writing, votes):
+# how often: refused carries, ACCEPTs that wait, carries that write, retries, garbage lines; the rest are votes after a cut
+KINDS = {
+    "mixed": (0.45, 0.35, 0.02, 0.01, 0.0),
+    "smooth": (0.0, 0.7, 0.01, 0.01, 0.0),
+    "refused": (0.97, 0.01, 0.0, 0.01, 0.0),
+    "garbage": (0.05, 0.04, 0.0, 0.0, 0.9),
+}
+
+
+def garbage(rng):
+    return rng.choice(["", "carry", "carry  1", "post 1 2", "carry 1234567890", "Carry 3", "retry 1", "job 1", "x" * 40, "cut 0 "])
+
+
+def night(rng, count, shares, refused, waiting, writing, votes):
+    bounds = [sum(shares[: i + 1]) for i in range(len(shares))]
     while len(lines) < count:
         dice = rng.random()
-        if dice < 0.45:
+        if dice < bounds[0]:
             carry(rng.choice(refused))
-        elif dice < 0.80:
+        elif dice < bounds[1]:
             carry(rng.choice(waiting))
-        elif dice < 0.82:
+        elif dice < bounds[2]:
             lines.append("carry %d" % rng.choice(writing))
-        elif dice < 0.83:
+        elif dice < bounds[3]:
             lines.append("retry %d %d" % (rng.randrange(12), rng.randrange(64)))
+        elif dice < bounds[4]:
+            lines.append(garbage(rng))
         else:
             order("cut 9")
             vote = rng.choice(votes)
@@ -98,10 +118,19 @@ def night(rng, count, refused, waiting, writing, votes):
             carry(vote)
 
 
+def session(count, kind):
+    """The lines of a session of so many orders behind its plan."""
+    del lines[:]
+    global written
+    written = 0
+    night(random.Random(1), 65 + count, KINDS[kind], *evening())
+    return lines[: 65 + count]
+
+
 def main():
-    count = 65 + (int(sys.argv[1]) if len(sys.argv) > 1 else 100000)
-    night(random.Random(1), count, *evening())
-    print("\n".join(lines[:count]))
+    count = int(sys.argv[1]) if len(sys.argv) > 1 else 100000
+    kind = sys.argv[2] if len(sys.argv) > 2 else "mixed"
+    print("\n".join(session(count, kind)))
 
 
 if __name__ == "__main__":
