@@ -281,8 +281,8 @@ fn judge_carry(
     requires { ⌜ (planSound plan ≡ true) × (known ≡ sound plan x) × Lengths x × (start ≤ mostPlace) × (start ≡ startOf plan (now post) used k) ⌝ }
     ensures { λ r. ⌜ Judges plan used x (now (post .entry)) (Carry k) (r .answer) (r .rec) ⌝ }
 {
-    let to = posting::byte_at(post, start + 3);
-    if (start < used) & ((to as u16) < plans::boxes_of(plan)) {} else {
+    let addressee = posting::byte_at(post, start + 3);
+    if (start < used) & ((addressee as u16) < plans::boxes_of(plan)) {} else {
         return refuse(records::NO_SUCH);
     }
     if known {} else {
