@@ -8,6 +8,7 @@ ghost use Rattle.laws.specs.Tray.{onto, allFor};
 ghost use Rattle.plans.specs.Plan.{boxesOf, planSound};
 ghost use Rattle.report.specs.Report.{boxText, boxMost, jobMost};
 ghost use Rattle.endings.specs.Endings.{jobsOf, shownOf};
+ghost use Rattle.endings.specs.Ends.{AllEnded};
 ghost use Rattle.endings.specs.Holders.{Ended};
 ghost use Rattle.closing.specs.Closing.{boxReport, jobReport, soundReport, reportMost};
 ghost use Rattle.closing.specs.Promise.{Closed};
@@ -19,6 +20,12 @@ use rehearsal::Night;
 
 // the room of the report
 pub const REPORT_ROOM: usize = rehearsal::MOST_BOXES * report::BOX_ROOM + 64 * report::JOB_ROOM;
+
+// what the boxes say of each job, and how long their lines are
+struct Boxed {
+    ends: [JobEnd; 64],
+    used: usize,
+}
 
 // the line of a box
 fn put_box(p: BoxNo, x: BoxState, t: &mut [u8]) -> usize
@@ -41,31 +48,37 @@ fn put_job(plan: Plan, job: u8, end: JobEnd, t: &mut [u8]) -> usize
     report::job_line(job, c.found, stamp, finished, t)
 }
 
-// the lines of the first n boxes
-fn put_boxes(night: Night, n: u8, t: &mut [u8]) -> usize
+// the lines of the first n boxes, and what these boxes say of each job
+fn put_boxes(night: Night, n: u8, t: &mut [u8]) -> Boxed
     requires { ⌜ (n ≤ 12) × (12 * boxMost ≤ length (now t)) ⌝ }
-    ensures { λ r. ⌜ (r ≤ 12 * boxMost) × (r ≡ length (allFor (boxReport night) n)) × (now (t .exit) ≡ onto (allFor (boxReport night) n) (now (t .entry))) ⌝ }
+    ensures { λ r. ⌜ (r .used ≤ 12 * boxMost) × (r .used ≡ length (allFor (boxReport night) n)) × (now (t .exit) ≡ onto (allFor (boxReport night) n) (now (t .entry))) × AllEnded night n (r .ends) ⌝ }
 {
     let boxes = night.boxes;
+    let mut ends = endings::no_ends();
     let mut used = 0;
     for p in 0..n {
         let at = p as usize;
         let x = boxes[at];
         let more = put_box(BoxNo(p), x, &mut t[used..]);
         used += more;
+        let said = endings::with_box(ends, BoxNo(p), x);
+        ends = said;
     }
-    used
+    Boxed {
+        ends: ends,
+        used: used,
+    }
 }
 
-// the lines of the first n jobs
-fn put_jobs(plan: Plan, night: Night, n: u8, t: &mut [u8]) -> usize
+// the lines of the first n jobs, from what the boxes say of each
+fn put_jobs(plan: Plan, ends: [JobEnd; 64], n: u8, t: &mut [u8]) -> usize
     requires { ⌜ (planSound plan ≡ true) × (n ≤ 64) × (64 * jobMost ≤ length (now t)) ⌝ }
-    ensures { λ r. ⌜ (r ≤ 64 * jobMost) × (r ≡ length (allFor (jobReport plan night) n)) × (now (t .exit) ≡ onto (allFor (jobReport plan night) n) (now (t .entry))) ⌝ }
+    ensures { λ r. ⌜ (r ≤ 64 * jobMost) × ((night : Night) → AllEnded night (boxesOf plan) ends → (r ≡ length (allFor (jobReport plan night) n)) × (now (t .exit) ≡ onto (allFor (jobReport plan night) n) (now (t .entry)))) ⌝ }
 {
-    let boxes = plans::boxes_of(plan) as u8;
     let mut used = 0;
     for j in 0..n {
-        let end = endings::job_end(night, j, boxes);
+        let at = j as usize;
+        let end = ends[at];
         let more = put_job(plan, j, end, &mut t[used..]);
         used += more;
     }
@@ -78,8 +91,10 @@ fn put_report(plan: Plan, night: Night, t: &mut [u8]) -> usize
     ensures { λ r. ⌜ (r ≤ reportMost) × (r ≡ length (soundReport plan night)) × (now (t .exit) ≡ onto (soundReport plan night) (now (t .entry))) ⌝ }
 {
     let n = plans::boxes_of(plan) as u8;
-    let a = put_boxes(night, n, t);
-    a + put_jobs(plan, night, plan.jobs, &mut t[a..])
+    let boxed = put_boxes(night, n, t);
+    let a = boxed.used;
+    let ends = boxed.ends;
+    a + put_jobs(plan, ends, plan.jobs, &mut t[a..])
 }
 
 // the report: nothing for an unsound plan

@@ -1,4 +1,4 @@
--- The holders of a job: the boxes that have it on their lists, as marks. The report walks over the boxes once a job and asks the marks after.
+-- The holders of a job: the boxes that have it on their lists, as marks. The report walks over the boxes once and asks the marks after.
 use Prim.Native.Nat.{ℕ, _+_, _≤_, _<_}
 use mathlib.Core.Bool.{Bool, true, false}
 use mathlib.Core.Logic.{_⊎_, inl, inr, _≢_}
@@ -34,6 +34,8 @@ pub record Ended (n : Night) (j k : ℕ) (e : JobEnd) : Type 0 where
   pub first-is : e .first ≡ firstBelow n j k
   -- which boxes have it on their lists
   pub holders-are : Holders n j k (e .holders)
+  -- and no other box is marked
+  pub none-from : NoneFrom k (e .holders)
 
 -- ---- what withHolder changes: box p, and no other
 

@@ -1,10 +1,11 @@
 // What the report at the end says of a night: a box's list, where a job is committed, whether it is finished.
-// What each function means stands in specs/Endings.antt, and of a job's holders in specs/Holders.antt.
+// What each function means stands in specs/Endings.antt, of a job's holders in specs/Holders.antt, of all jobs in specs/Ends.antt.
 ghost use mathlib.Core.Path.{_≡_};
 ghost use Prim.Native.Nat.{ℕ, _+_, _*_, _≤_, _<_};
 ghost use Rattle.plans.specs.Plan.{sizeOf};
 ghost use Rattle.endings.specs.Endings.{jobsOf, shownOf, firstOf, listedIn, doneIn, finished};
-ghost use Rattle.endings.specs.Holders.{Holders, withHolder, Ended};
+ghost use Rattle.endings.specs.Holders.{Holders, withHolder};
+ghost use Rattle.endings.specs.Ends.{endWith, noEnds, OneMore};
 use boxes::BoxState;
 use house::BoxNo;
 use house::District;
@@ -80,27 +81,45 @@ fn with_holder(holders: u32, p: BoxNo, listed: bool) -> u32
     holders
 }
 
-// what the first n boxes say of a job
-pub fn job_end(night: Night, job: u8, n: u8) -> JobEnd
-    requires { ⌜ n ≤ 12 ⌝ }
-    ensures { λ r. ⌜ Ended night job n r ⌝ }
+// what was said of a job, and what box p says of it
+fn end_with(end: JobEnd, p: BoxNo, x: BoxState, job: u8) -> JobEnd
+    ensures { λ r. ⌜ r ≡ endWith end p x job ⌝ }
 {
-    let boxes = night.boxes;
-    let mut first = Committed {
-        found: false,
-        stamp: house::no_stamp(),
-    };
-    let mut holders = marks::no_marks();
-    for p in 0..n {
-        let at = p as usize;
-        let x = boxes[at];
-        first = first_of(first, looking::row_at(x, job));
-        holders = with_holder(holders, BoxNo(p), looking::on_list(x, job));
-    }
+    let first = first_of(end.first, looking::row_at(x, job));
+    let holders = with_holder(end.holders, p, looking::on_list(x, job));
     JobEnd {
         first: first,
         holders: holders,
     }
+}
+
+// before any box is asked: nothing found and no holders, for each job
+pub fn no_ends() -> [JobEnd; 64]
+    ensures { λ r. ⌜ r ≡ noEnds ⌝ }
+{
+    let first = Committed {
+        found: false,
+        stamp: house::no_stamp(),
+    };
+    let none = JobEnd {
+        first: first,
+        holders: marks::no_marks(),
+    };
+    [none; 64]
+}
+
+// what the boxes before p say of each job, and box p, which is x
+pub fn with_box(ends: [JobEnd; 64], p: BoxNo, x: BoxState) -> [JobEnd; 64]
+    ensures { λ r. ⌜ OneMore p x ends r ⌝ }
+{
+    let mut out = ends;
+    for j in 0..house::MOST_JOBS {
+        let at = j as usize;
+        let end = out[at];
+        let e = end_with(end, p, x, j);
+        out[at] = e;
+    }
+    out
 }
 
 // one of `size` boxes from `low` on holds the job
