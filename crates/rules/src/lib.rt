@@ -54,7 +54,7 @@ fn newleader_obeys(plan: Plan, from: BoxNo, to: BoxNo, b: Ballot) -> bool
     parties::are_neighbours(plan, from, to) & house::ballot_of(from, b)
 }
 
-fn newleader_ack_obeys(
+pub fn newleader_ack_obeys(
     plan: Plan,
     from: BoxNo,
     to: BoxNo,

@@ -1,7 +1,6 @@
 // Whether what a cut forgets is sound: kept ACCEPTs, marks and the vote. The tests stand in specs/Sound.antt of boxes.
 ghost use mathlib.Core.Path.{_≡_};
-ghost use Rattle.records.specs.Rec.{newleader-ack, carried};
-ghost use Rattle.boxes.specs.Sound.{paperOf, allKeptSound, allMarksSound, unvoted, voteSound};
+ghost use Rattle.boxes.specs.Sound.{allKeptSound, allMarksSound, unvoted, voteSound};
 ghost use Rattle.sound_volatiles.specs.Pairs.{pairSound, unnamedBelow, jobMarksSound};
 use boxes::BoxState;
 use boxes::Vote;
@@ -9,7 +8,6 @@ use house::Ballot;
 use house::District;
 use house::Stamp;
 use plans::Plan;
-use records::Record;
 
 // an ACCEPT is kept for each job and district, job by job
 const MOST_KEPT: usize = (house::MOST_JOBS as usize) * (house::MOST_DISTRICTS as usize);
@@ -73,38 +71,6 @@ pub fn marks_sound(plan: Plan, x: BoxState) -> bool
     ok
 }
 
-// the kind 6 record that held the vote
-fn paper_record(plan: Plan, x: BoxState) -> Record
-    ensures { λ r. ⌜ r ≡ carried (newleader-ack (x .volatile .vote .voter) (x .core .own) (paperOf plan x)) ⌝ }
-{
-    let c = x.core;
-    let v = x.volatile;
-    let vote = v.vote;
-    let voter = vote.voter;
-    let own = c.own;
-    let b = c.ballot;
-    let cb = vote.cballot;
-    let table = vote.table;
-    let home = plans::home_of(plan, voter);
-    let clock = Stamp {
-        time: vote.clock,
-        district: home,
-    };
-    let none = house::no_stamp();
-    let no_ballot = house::no_ballot();
-    let ballots = [b, cb, no_ballot, no_ballot];
-    let stamps = [clock, none];
-    Record {
-        kind: 6,
-        from: voter,
-        to: own,
-        job: house::NO_JOB,
-        ballots: ballots,
-        stamps: stamps,
-        table: table,
-    }
-}
-
 fn is_unvoted(vote: Vote) -> bool
     ensures { λ r. ⌜ r ≡ unvoted vote ⌝ }
 {
@@ -114,15 +80,26 @@ fn is_unvoted(vote: Vote) -> bool
     ((voter.0 == 0) & house::is_no_ballot(cb)) & ((vote.clock == 0) & spares::spare_rows(table, 0))
 }
 
+// a vote that is held obeys the rules of the kind 6 record that brought it
 pub fn vote_sound(plan: Plan, x: BoxState) -> bool
     ensures { λ r. ⌜ r ≡ voteSound plan x ⌝ }
 {
     let v = x.volatile;
     let vote = v.vote;
     if vote.held {
-        let r = paper_record(plan, x);
+        let c = x.core;
+        let own = c.own;
+        let b = c.ballot;
+        let voter = vote.voter;
+        let cb = vote.cballot;
         let table = vote.table;
-        return rules::obeys(plan, r) & spares::spare_rows(table, plan.jobs);
+        let home = plans::home_of(plan, voter);
+        let clock = Stamp {
+            time: vote.clock,
+            district: home,
+        };
+        return rules::newleader_ack_obeys(plan, voter, own, b, cb, clock, table)
+            & spares::spare_rows(table, plan.jobs);
     }
     is_unvoted(vote)
 }
