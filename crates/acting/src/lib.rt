@@ -113,9 +113,9 @@ pub fn judge_bytes(plan: Plan, x: BoxState, bytes: &[u8]) -> Judged
     }
 }
 
-// kinds 1 to 4
-fn act_job(plan: Plan, x: BoxState, r: Record, tray: &mut [u8]) -> Outcome
-    requires { ⌜ (r .kind ≤ 4) × Acting plan x r (length (now tray)) × (judged plan x (meaning r) ≡ Answer.Done) ⌝ }
+// the step
+pub fn act(plan: Plan, x: BoxState, r: Record, tray: &mut [u8]) -> Outcome
+    requires { ⌜ Acting plan x r (length (now tray)) × (judged plan x (meaning r) ≡ Answer.Done) ⌝ }
     ensures { λ o. ⌜ (o ≡ resultOf plan x (react plan x (meaning r))) × (now (tray .exit) ≡ onto (encodeAll plan (recordsOf (react plan x (meaning r)))) (now (tray .entry))) ⌝ }
 {
     let from = r.from;
@@ -129,25 +129,10 @@ fn act_job(plan: Plan, x: BoxState, r: Record, tray: &mut [u8]) -> Outcome
         1 => job_steps::do_multicast(plan, x, job, tray),
         2 => job_steps::do_accept(plan, x, from, job, b, s, tray),
         3 => job_steps::do_accept_ack(plan, x, from, job, ballots, tray),
-        _ => {
+        4 => {
             let t = stamps[1];
             job_steps::do_deliver(plan, x, job, b, s, t)
         }
-    }
-}
-
-// kinds 5 to 8
-fn act_leader(plan: Plan, x: BoxState, r: Record, tray: &mut [u8]) -> Outcome
-    requires { ⌜ (4 < r .kind) × Acting plan x r (length (now tray)) × (judged plan x (meaning r) ≡ Answer.Done) ⌝ }
-    ensures { λ o. ⌜ (o ≡ resultOf plan x (react plan x (meaning r))) × (now (tray .exit) ≡ onto (encodeAll plan (recordsOf (react plan x (meaning r)))) (now (tray .entry))) ⌝ }
-{
-    let from = r.from;
-    let ballots = r.ballots;
-    let stamps = r.stamps;
-    let b = ballots[0];
-    let s = stamps[0];
-    let k = r.kind;
-    match k {
         5 => leader_steps::do_newleader(plan, x, from, b, tray),
         6 => {
             let cb = ballots[1];
@@ -160,15 +145,4 @@ fn act_leader(plan: Plan, x: BoxState, r: Record, tray: &mut [u8]) -> Outcome
         }
         _ => leader_steps::do_newstate_ack(plan, x, b, tray),
     }
-}
-
-// the step
-pub fn act(plan: Plan, x: BoxState, r: Record, tray: &mut [u8]) -> Outcome
-    requires { ⌜ Acting plan x r (length (now tray)) × (judged plan x (meaning r) ≡ Answer.Done) ⌝ }
-    ensures { λ o. ⌜ (o ≡ resultOf plan x (react plan x (meaning r))) × (now (tray .exit) ≡ onto (encodeAll plan (recordsOf (react plan x (meaning r)))) (now (tray .entry))) ⌝ }
-{
-    if r.kind <= 4 {
-        return act_job(plan, x, r, tray);
-    }
-    act_leader(plan, x, r, tray)
 }
