@@ -1,12 +1,14 @@
 // A record that passed the tests 1 to 5: first its answer, from the box as it is; then, unless it is refused, its step. The kind decides which.
 ghost use mathlib.Core.Bool.{true};
+ghost use mathlib.Core.List.{List};
 ghost use mathlib.Core.Path.{_≡_};
-ghost use Prim.Native.Nat.{_≤_, _<_};
+ghost use Prim.Native.Nat.{ℕ, _≤_, _<_};
 ghost use lib.Dec.{eqb};
 ghost use lib.ListN.{length};
 ghost use Rattle.laws.specs.Tray.{onto};
 ghost use Rattle.records.specs.Answers.{otherBox, orNo};
 ghost use Rattle.records.specs.Format.{mostKind};
+ghost use Rattle.records.specs.Outcome.{RecordRead};
 ghost use Rattle.records.specs.Rec.{meaning};
 ghost use Rattle.records.specs.Bytes.{encodeAll};
 ghost use Rattle.boxes.specs.Box.{ownOf};
@@ -93,23 +95,29 @@ fn judge_record(plan: Plan, x: BoxState, r: Record) -> Answer
     Answer::No(records::OTHER_BOX)
 }
 
+// what bytes were read as, given to a sound box: the reader's answer, 5, and the kind's own tests
+pub fn judge_read(plan: Plan, x: BoxState, read: Answer, r: Record) -> Answer
+    requires { ⌜ (sound plan x ≡ true) × ((s : List ℕ) × RecordRead plan s (record { answer = read; rec = r })) ⌝ }
+    ensures { λ a. ⌜ ((s : List ℕ) → RecordRead plan s (record { answer = read; rec = r }) → Judging plan x s a r) ⌝ }
+{
+    match read {
+        Answer::No(n) => Answer::No(n),
+        Answer::Done => judge_record(plan, x, r),
+    }
+}
+
 // bytes given to a sound box: the answers 3 to 10
 pub fn judge_bytes(plan: Plan, x: BoxState, bytes: &[u8]) -> Judged
     requires { ⌜ sound plan x ≡ true ⌝ }
     ensures { λ j. ⌜ Judging plan x (now (bytes .entry)) (j .answer) (j .rec) ⌝ }
 {
     let got = reader::read_bytes(plan, bytes);
-    let answer = got.answer;
+    let read = got.answer;
     let r = got.rec;
-    match answer {
-        Answer::No(n) => Judged {
-            rec: r,
-            answer: Answer::No(n),
-        },
-        Answer::Done => Judged {
-            rec: r,
-            answer: judge_record(plan, x, r),
-        },
+    let answer = judge_read(plan, x, read, r);
+    Judged {
+        rec: r,
+        answer: answer,
     }
 }
 

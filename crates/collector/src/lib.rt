@@ -65,12 +65,13 @@ pub fn receive(plan: Plan, x: BoxState, bytes: &[u8], tray: &mut [u8]) -> Outcom
     if let Answer::No(n) = first {
         return refused(x, n);
     }
-    let j = acting::judge_bytes(plan, x, bytes);
-    let answer = j.answer;
+    let got = reader::read_bytes(plan, bytes);
+    let read = got.answer;
+    let r = got.rec;
+    let answer = acting::judge_read(plan, x, read, r);
     if let Answer::No(n) = answer {
         return refused(x, n);
     }
-    let r = j.rec;
     acting::act(plan, x, r, tray)
 }
 

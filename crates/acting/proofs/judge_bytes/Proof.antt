@@ -1,81 +1,17 @@
 -- `acting::judge_bytes` meets its contract.
-use Rattle.acting.specs.Judging.{sound-plan, kind-fits, judging-unread, judging-taken}
-use Rattle.keeps.specs.Sound.{Lengths}
-use Rattle.looking.specs.Long.{long-map}
-use Rattle.plans.specs.declared.Plan.{Plan}
-use Rattle.records.specs.Bytes.{parse}
-use Rattle.records.specs.Outcome.{ifDone, readAnswer, readRecord, reads, RecordRead, read-is-promised, read-says}
-use Rattle.records.specs.Rec.{noRecord}
-use Rattle.records.specs.Rules.{valid}
-use Rattle.records.specs.declared.Answer.{Answer}
-use Rattle.records.specs.declared.Answer.the-variants.{Done}
-use Rattle.records.specs.declared.ReadOut.{ReadOut}
-use Prim.Native.Nat.{ℕ}
-use mathlib.Core.Bool.{true}
-use mathlib.Core.List.{List}
-use mathlib.Core.Path.{_≡_, sym, ap, _∙_}
-use borrow.Author.Needs.{needs}
+use Rattle.acting.specs.Judging.{sound-plan}
 use Rattle.acting.proofs.judge_bytes.Statement.{statement}
 use Rattle.acting.proofs.judge_bytes.Tie as tie
-
--- owning a box says how long its arrays are
-lengths : (c : tie.Start) → Lengths (c .args .x)
-lengths c =
-    let x = c .args .x in let g = c .good .1 .0 .1 .1 in
-    let t = g .0 .1 .1 .1 .1 .1 .1 .1 in
-    let k = g .1 .0 .1 .1 in
-    record {
-      table = long-map _ _ _ (x .core .table) 64 (t .0 .1 .0 .1);
-      sent = search needs;
-      list = long-map _ _ _ (x .core .list) 64 (t .1 .1 .1 .0 .1 .0 .1);
-      kept-ballots = long-map _ _ _ (x .volatile .«kept_ballots») 256 (k .0 .1 .0 .1);
-      kept-stamps = long-map _ _ _ (x .volatile .«kept_stamps») 256 (k .1 .0 .1 .0 .1);
-      marks = search needs;
-      vote-table = long-map _ _ _ (x .volatile .vote .table) 64 (k .1 .1 .1 .0 .1 .1 .1 .1 .1 .1 .0 .1 .0 .1);
-    }
-
--- what the reader's promise says of its answer and, if that is done, of its record
-record Took (P : Plan) (s : List ℕ) (o : ReadOut) : Type 0 where
-  read : readAnswer P s ≡ Done
-  parsed : o .rec ≡ parse P s
-  is-valid : valid P (o .rec) ≡ true
-
-answer-is : {P : Plan} {s : List ℕ} {o : ReadOut} {a : Answer} → RecordRead P s o → o .answer ≡ a → readAnswer P s ≡ a
-unfolding reads
-answer-is w e = sym (ap (λ (q : ReadOut). q .answer) (read-is-promised w)) ∙ e
-
-took : (P : Plan) (s : List ℕ) (o : ReadOut) → RecordRead P s o → o .answer ≡ Done → Took P s o
-unfolding reads readRecord
-took P s o w e =
-    let d : readAnswer P s ≡ Done = answer-is w e in
-    let f : o .rec ≡ parse P s = ap (λ (q : ReadOut). q .rec) (read-is-promised w) ∙ ap (λ (q : Answer). ifDone q (parse P s) noRecord) d in
-    record { read = d; parsed = f; is-valid = rw f (read-says P s d .2) }
 
 read-bytes-requires : tie.Need-read-bytes-requires
 read-bytes-requires c κs = let a = c .before in sound-plan (a .args .plan) (a .args .x) (a .pre)
 
-enum-known-answer : tie.Need-enum-known-answer
-enum-known-answer c = search needs
-
-enum-told : tie.Need-enum-told
-enum-told c = search needs
-
-judge-record-requires : tie.Need-judge-record-requires
-judge-record-requires c κs =
-    let a = c .before .before .before .before .before .args in let q = c .before .before .before .read-bytes in
-    kind-fits (a .plan) (q .result .rec) (took (a .plan) (a .bytes .now) (q .result) (q .ensures) (c .enum-told .given .1) .is-valid)
+judge-read-requires : tie.Need-judge-read-requires
+judge-read-requires c κs = let a = c .before .before .before in (a .pre, (a .args .bytes .now, c .before .read-bytes .ensures))
 
 returns : tie.Need-returns
 returns c =
-    let a = c .before .before .before .before .before .before in let q = c .before .before .before .before .read-bytes in
-    judging-unread (a .args .plan) (a .args .x) (a .args .bytes .now) (a .pre) _ (q .result .rec) (answer-is (q .ensures) (c .before .answer .given .1))
-
-returns-2 : tie.Need-returns-2
-returns-2 c =
-    let a = c .before .before .before .before .before .before in let q = c .before .before .before .before .read-bytes in
-    let t = took (a .args .plan) (a .args .bytes .now) (q .result) (q .ensures) (c .before .enum-told .given .1) in
-    judging-taken (a .args .plan) (a .args .x) (a .args .bytes .now) (a .pre) (c .judge-record .result) (q .result .rec) (lengths a) (t .read) (t .parsed) (t .is-valid)
-    (c .judge-record .ensures)
+    let a = c .before .before .before .before in c .judge-read .ensures (a .args .bytes .now) (c .before .before .read-bytes .ensures)
 
 pub judge-bytes-spec : {M : Type 1} → statement M
-judge-bytes-spec = tie.close (tie.spec read-bytes-requires enum-known-answer enum-told judge-record-requires returns returns-2)
+judge-bytes-spec = tie.close (tie.spec read-bytes-requires judge-read-requires returns)

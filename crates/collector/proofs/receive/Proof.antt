@@ -1,5 +1,6 @@
 -- `collector::receive` meets its contract.
 use Rattle.collector.specs.Face.{two-go, refusing, receives-refused}
+use Rattle.acting.specs.Judging.{Judging, sound-plan}
 use Rattle.boxes.specs.Promise.{stepped}
 use Rattle.boxes.specs.Sound.{sound}
 use Rattle.house.specs.Limits.{leastTray}
@@ -37,8 +38,17 @@ admitted : (c : tie.After-enum-told) → let a = c .before .before .before .befo
     (sound (a .plan) (a .x) ≡ true) × (leastTray ≤ length (a .tray .now))
 admitted c = two-go _ (c .before .before .before .is-sound .ensures) (sym (c .before .before .admit .ensures) ∙ c .enum-told .given .1)
 
-judge-bytes-requires : tie.Need-judge-bytes-requires
-judge-bytes-requires c κs = admitted c .0
+read-bytes-requires : tie.Need-read-bytes-requires
+read-bytes-requires c κs = let a = c .before .before .before .before .before .before .args in sound-plan (a .plan) (a .x) (admitted c .0)
+
+judge-read-requires : tie.Need-judge-read-requires
+judge-read-requires c κs =
+    let a = c .before .before .before .before .before .before .before .before .args in (admitted (c .before .before) .0, (a .bytes .now, c .before .read-bytes .ensures))
+
+-- what the bytes come to
+judging : (c : tie.After-judge-read) → let a = c .before .before .before .before .before .before .before .before .before .args in
+    Judging (a .plan) (a .x) (a .bytes .now) (c .judge-read .result) (c .before .before .read-bytes .result .rec)
+judging c = c .judge-read .ensures _ (c .before .before .read-bytes .ensures)
 
 enum-known-answer : tie.Need-enum-known-answer
 enum-known-answer c = search needs
@@ -49,23 +59,23 @@ refused-requires-2 c κs = search needs
 returns-2 : tie.Need-returns-2
 returns-2 c =
     let j = c .before .before .before .before in
-    refusing (c .refused2 .ensures) (j .judge-bytes .ensures .refuse _ (c .before .before .answer .given .1) _ (admitted (j .before) .1))
+    refusing (c .refused2 .ensures) (judging j .refuse _ (c .before .before .answer .given .1) _ (admitted (j .before .before .before) .1))
 
 enum-told-2 : tie.Need-enum-told-2
 enum-told-2 c = search needs
 
 act-requires : tie.Need-act-requires
 act-requires c κs =
-    let j = c .before .before .before .before in let q = j .judge-bytes .ensures in let d = c .before .before .enum-told2 .given .1 in
-    (q .go d _ (admitted (j .before) .1) .1, q .done d)
+    let j = c .before .before .before in let d = c .before .enum-told2 .given .1 in
+    (judging j .go d _ (admitted (j .before .before .before) .1) .1, judging j .done d)
 
 same-length : tie.Need-same-length
 same-length c = search needs
 
 returns-3 : tie.Need-returns-3
 returns-3 c =
-    let d = c .before .before .before .before .before in let j = d .before .before in
-    let e = j .judge-bytes .ensures .go (d .enum-told2 .given .1) _ (admitted (j .before) .1) .0 in
+    let d = c .before .before .before .before in let j = d .before .before in
+    let e = judging j .go (d .enum-told2 .given .1) _ (admitted (j .before .before .before) .1) .0 in
     let q = c .before .before .act .ensures in
     stepped (rw e (q .0)) (rw e (q .1))
 
@@ -79,7 +89,8 @@ receive-spec =
     refused-requires
     returns
     enum-told
-    judge-bytes-requires
+    read-bytes-requires
+    judge-read-requires
     enum-known-answer
     refused-requires-2
     returns-2
