@@ -5,8 +5,8 @@ use Rattle.laws.specs.Choice.{pick}
 use Rattle.laws.specs.Tray.{allFor}
 use Rattle.plans.specs.Plan.{boxesOf, planSound}
 use Rattle.plans.specs.declared.Plan.{Plan}
-use Rattle.rehearsal.specs.Night.{boxIn}
-use Rattle.rehearsal.specs.declared.Night.{Night}
+use Rattle.orders.specs.Night.{boxIn}
+use Rattle.orders.specs.declared.Night.{Night}
 use Rattle.report.specs.Report.{boxText, jobText, boxMost, jobMost}
 use Rattle.endings.specs.Endings.{jobsOf, shownOf, firstBelow, finished}
 

@@ -5,7 +5,7 @@ use mathlib.Core.Path.{_≡_, sym, _∙_}
 use lib.ListN.{length}
 use Rattle.laws.specs.Tray.{onto}
 use Rattle.plans.specs.declared.Plan.{Plan}
-use Rattle.rehearsal.specs.declared.Night.{Night}
+use Rattle.orders.specs.declared.Night.{Night}
 use Rattle.closing.specs.Closing.{nightReport}
 
 pub record Closed (P : Plan) (n : Night) (before : List ℕ) (r : ℕ) (after : List ℕ) : Type 0 where

@@ -15,11 +15,11 @@ ghost use Rattle.closing.specs.Promise.{Closed};
 use boxes::BoxState;
 use endings::JobEnd;
 use house::BoxNo;
+use orders::Night;
 use plans::Plan;
-use rehearsal::Night;
 
 // the room of the report
-pub const REPORT_ROOM: usize = rehearsal::MOST_BOXES * report::BOX_ROOM + 64 * report::JOB_ROOM;
+pub const REPORT_ROOM: usize = orders::MOST_BOXES * report::BOX_ROOM + 64 * report::JOB_ROOM;
 
 // what the boxes say of each job, and how long their lines are
 struct Boxed {

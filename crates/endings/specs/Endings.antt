@@ -13,8 +13,8 @@ use Rattle.plans.specs.Plan.{sizeOf, names}
 use Rattle.plans.specs.declared.Plan.{Plan}
 use Rattle.boxes.specs.Box.{rowAt, listedAt, onList}
 use Rattle.boxes.specs.declared.BoxState.{BoxState}
-use Rattle.rehearsal.specs.Night.{boxIn}
-use Rattle.rehearsal.specs.declared.Night.{Night}
+use Rattle.orders.specs.Night.{boxIn}
+use Rattle.orders.specs.declared.Night.{Night}
 use Rattle.endings.specs.declared.Committed.{Committed}
 
 -- the first n jobs of a box's list, place by place

@@ -14,8 +14,8 @@ use Rattle.house.specs.declared.BoxNo.{BoxNo}
 use Rattle.marks.specs.Marks.{noMarks, mostMarks}
 use Rattle.boxes.specs.Box.{rowAt, onList}
 use Rattle.boxes.specs.declared.BoxState.{BoxState}
-use Rattle.rehearsal.specs.Night.{boxIn}
-use Rattle.rehearsal.specs.declared.Night.{Night}
+use Rattle.orders.specs.Night.{boxIn}
+use Rattle.orders.specs.declared.Night.{Night}
 use Rattle.endings.specs.Endings.{firstOf, firstBelow, nowhere}
 use Rattle.endings.specs.Holders.{withHolder, Ended, none-yet, one-more}
 use Rattle.endings.specs.Laws.{withBoxes}

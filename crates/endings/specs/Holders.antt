@@ -11,8 +11,8 @@ use Rattle.house.specs.declared.BoxNo.{BoxNo}
 use Rattle.marks.specs.Marks.{noMarks, mostMarks, hasMark, marked}
 use Rattle.marks.specs.Quorums.{no-mark, mark-same, mark-other}
 use Rattle.boxes.specs.Box.{onList}
-use Rattle.rehearsal.specs.Night.{boxIn}
-use Rattle.rehearsal.specs.declared.Night.{Night}
+use Rattle.orders.specs.Night.{boxIn}
+use Rattle.orders.specs.declared.Night.{Night}
 use Rattle.endings.specs.Endings.{firstBelow}
 use Rattle.endings.specs.declared.JobEnd.{JobEnd}
 

@@ -6,7 +6,7 @@ use native.Mathlib.Omega.{arith}
 use lib.ListN.{length, getD, length-append}
 use Rattle.boxes.specs.declared.BoxState.{BoxState}
 use Rattle.boxes.specs.Box.{listedAt}
-use Rattle.rehearsal.specs.declared.Night.{Night}
+use Rattle.orders.specs.declared.Night.{Night}
 use Rattle.endings.specs.Endings.{firstJobs}
 
 pub first-jobs-length : (x : BoxState) (n : ℕ) → length (firstJobs x n) ≡ n

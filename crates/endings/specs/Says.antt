@@ -13,8 +13,8 @@ use Rattle.plans.specs.Plan.{sizeOf, homeOf, names}
 use Rattle.plans.specs.Says.{home-is}
 use Rattle.plans.specs.declared.Plan.{Plan}
 use Rattle.boxes.specs.Box.{rowAt, onList}
-use Rattle.rehearsal.specs.Night.{boxIn}
-use Rattle.rehearsal.specs.declared.Night.{Night}
+use Rattle.orders.specs.Night.{boxIn}
+use Rattle.orders.specs.declared.Night.{Night}
 use Rattle.endings.specs.Endings.{isCommitted, firstOf, firstBelow, listedIn, doneIn, finished}
 use Rattle.endings.specs.declared.Committed.{Committed}
 

@@ -11,8 +11,8 @@ use house::BoxNo;
 use house::District;
 use house::Row;
 use house::Stamp;
+use orders::Night;
 use plans::Plan;
-use rehearsal::Night;
 
 // the phase of a committed job
 const COMMITTED: u8 = 3;

@@ -6,8 +6,8 @@ use mathlib.Core.Path.{_≡_, refl, sym, ap, _∙_}
 use Rattle.lines.specs.declared.Order as typed
 use Rattle.lines.specs.Orders.{districts, job, post, stand, retry, cut, carry}
 use Rattle.lines.specs.Reads.{orderWord, orderNumbers, same-order}
-use Rattle.rehearsal.specs.declared.Night.{Night}
-use Rattle.rehearsal.specs.declared.Order as ask
+use Rattle.orders.specs.declared.Night.{Night}
+use Rattle.orders.specs.declared.Order as ask
 use Rattle.drawing.specs.declared.Desk.{Desk}
 use Rattle.hearing.specs.Heard.{obeyed, handled}
 

@@ -6,10 +6,10 @@ use Rattle.laws.specs.Choice.{pick}
 use Rattle.records.specs.Answers.{unreadable}
 use Rattle.records.specs.declared.Answer.{Answer}
 use Rattle.records.specs.declared.Answer.the-variants.{Done, No}
-use Rattle.rehearsal.specs.declared.Night.{Night}
-use Rattle.rehearsal.specs.declared.Turn.{Turn}
-use Rattle.rehearsal.specs.declared.Order as ask
-use Rattle.rehearsal.specs.Night.{whose, given, turnOf, postOf}
+use Rattle.orders.specs.declared.Night.{Night}
+use Rattle.orders.specs.declared.Turn.{Turn}
+use Rattle.orders.specs.declared.Order as ask
+use Rattle.orders.specs.Night.{whose, given, turnOf, postOf}
 use Rattle.lines.specs.declared.Order as typed
 use Rattle.texts.specs.Texts.{answerText}
 use Rattle.drawing.specs.declared.Desk.{Desk}

@@ -8,10 +8,10 @@ use Rattle.laws.specs.Tray.{onto}
 use Rattle.records.specs.Bytes.{encodeAll}
 use Rattle.boxes.specs.Out.{refused}
 use Rattle.texts.specs.Texts.{answerText}
-use Rattle.rehearsal.specs.declared.Night.{Night}
-use Rattle.rehearsal.specs.declared.Order.{Order}
-use Rattle.rehearsal.specs.declared.Turn.{Turn}
-use Rattle.rehearsal.specs.Night.{given}
+use Rattle.orders.specs.declared.Night.{Night}
+use Rattle.orders.specs.declared.Order.{Order}
+use Rattle.orders.specs.declared.Turn.{Turn}
+use Rattle.orders.specs.Night.{given}
 use Rattle.rehearsal.specs.Promises.{OrderRehearsed, turn-is}
 use Rattle.drawing.specs.declared.Desk.{Desk}
 use Rattle.drawing.specs.Desk.{fixedDesk}

@@ -10,10 +10,10 @@ use Rattle.records.specs.Answers.{postFull}
 use Rattle.records.specs.declared.Answer.the-variants.{Done, No}
 use Rattle.boxes.specs.Sound.{sound}
 use Rattle.boxes.specs.declared.BoxState.{BoxState}
-use Rattle.rehearsal.specs.Alone.{Stands, alone, alone-is}
-use Rattle.rehearsal.specs.Steps.{Goes}
-use Rattle.rehearsal.specs.declared.Night.{Night}
-use Rattle.rehearsal.specs.declared.Order as ask
+use Rattle.orders.specs.Alone.{Stands, alone, alone-is}
+use Rattle.orders.specs.Steps.{Goes}
+use Rattle.orders.specs.declared.Night.{Night}
+use Rattle.orders.specs.declared.Order as ask
 use Rattle.lines.specs.declared.Order as typed
 use Rattle.texts.specs.Texts.{answerText, answerMost}
 use Rattle.drawing.specs.declared.Desk.{Desk}

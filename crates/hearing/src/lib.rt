@@ -9,7 +9,7 @@ ghost use Rattle.laws.specs.Choice.{pick};
 ghost use Rattle.laws.specs.Tray.{onto};
 ghost use Rattle.boxes.specs.Sound.{sound};
 ghost use Rattle.posting.specs.Posting.{mostPlace};
-ghost use Rattle.rehearsal.specs.Alone.{Starts};
+ghost use Rattle.orders.specs.Alone.{Starts};
 ghost use Rattle.texts.specs.Texts.{answerMost};
 ghost use Rattle.hearing.specs.Heard.{unread, planLine};
 ghost use Rattle.hearing.specs.Hears.{askOf, asksOf, settledText, Plain, Obeys, Hears};
@@ -68,7 +68,7 @@ fn hear_order(
     known: bool,
     used: usize,
     x: BoxState,
-    order: rehearsal::Order,
+    order: orders::Order,
     start: usize,
     post: &[u8],
     t: &mut [u8],
@@ -77,8 +77,8 @@ fn hear_order(
     ensures { λ r. ⌜ Obeys desk used x (now (post .entry)) order r (now (t .entry)) (now (t .exit)) ⌝ }
 {
     let plan = desk.plan;
-    let sure = rehearsal::known_sound(plan, known, x);
-    let j = rehearsal::judge(plan, sure, used, x, order, start, post);
+    let sure = orders::known_sound(plan, known, x);
+    let j = orders::judge(plan, sure, used, x, order, start, post);
     let answer = j.answer;
     let r = j.rec;
     let fixed = drawing::fix(desk);
@@ -104,18 +104,18 @@ fn hear_order(
 }
 
 // the order as the rehearsal knows it; a plan line asks no box, and the first will do
-pub fn order_of(order: lines::Order) -> rehearsal::Order
+pub fn order_of(order: lines::Order) -> orders::Order
     ensures { λ r. ⌜ r ≡ askOf order ⌝ }
 {
     match order {
-        lines::Order::Districts(g) => rehearsal::Order::Post(0),
-        lines::Order::Job(m) => rehearsal::Order::Post(0),
-        lines::Order::Post(j) => rehearsal::Order::Post(j),
-        lines::Order::Stand(p) => rehearsal::Order::Stand(p),
-        lines::Order::Retry(p, j) => rehearsal::Order::Retry(p, j),
-        lines::Order::Cut(p) => rehearsal::Order::Cut(p),
-        lines::Order::Carry(k) => rehearsal::Order::Carry(k),
-        lines::Order::Unreadable => rehearsal::Order::Post(0),
+        lines::Order::Districts(g) => orders::Order::Post(0),
+        lines::Order::Job(m) => orders::Order::Post(0),
+        lines::Order::Post(j) => orders::Order::Post(j),
+        lines::Order::Stand(p) => orders::Order::Stand(p),
+        lines::Order::Retry(p, j) => orders::Order::Retry(p, j),
+        lines::Order::Cut(p) => orders::Order::Cut(p),
+        lines::Order::Carry(k) => orders::Order::Carry(k),
+        lines::Order::Unreadable => orders::Order::Post(0),
     }
 }
 

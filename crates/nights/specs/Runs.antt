@@ -25,11 +25,11 @@ use Rattle.world.specs.World.{World, freshBoxes, new, run, step, recordAt}
 use Rattle.reach.specs.Boxes.{fresh-length, fresh-at}
 use Rattle.reach.specs.Reached.{Reached, record-good, new-reached, reached-step, reached}
 use Rattle.reach.specs.Answers.{answers}
-use Rattle.rehearsal.specs.Night as Nights
+use Rattle.orders.specs.Night as Nights
 use Rattle.posting.specs.Posting.{startOf, bytesFrom}
-use Rattle.rehearsal.specs.Night.{freshNight}
-use Rattle.rehearsal.specs.declared.Night.{Night}
-use Rattle.rehearsal.specs.declared.Order.{Order}
+use Rattle.orders.specs.Night.{freshNight}
+use Rattle.orders.specs.declared.Night.{Night}
+use Rattle.orders.specs.declared.Order.{Order}
 use Rattle.nights.specs.Walk.{arrays}
 use Rattle.nights.specs.Same.{told, Same, bytes-same}
 use Rattle.nights.specs.Turns.{nightAfter, postAfter, Alike, both-refuse, both-do, full, alike}

@@ -30,12 +30,12 @@ use Rattle.world.specs.World.{World, boxAt, recordAt, post, stand, retry, cut, 
 use Rattle.keeps.specs.Sends.{Good, Sized}
 use Rattle.reach.specs.Boxes.{some-box}
 use Rattle.reach.specs.Reached.{Reached, record-good, record-box}
-use Rattle.rehearsal.specs.Night as Nights
+use Rattle.orders.specs.Night as Nights
 use Rattle.posting.specs.Posting.{roomOf, startOf, bytesFrom, toBox}
-use Rattle.rehearsal.specs.Night.{boxIn, ifFits}
-use Rattle.rehearsal.specs.declared.Night.{Night}
-use Rattle.rehearsal.specs.declared.Order.{Order}
-use Rattle.rehearsal.specs.declared.Order.the-variants.{Post, Stand, Retry, Cut, Carry}
+use Rattle.orders.specs.Night.{boxIn, ifFits}
+use Rattle.orders.specs.declared.Night.{Night}
+use Rattle.orders.specs.declared.Order.{Order}
+use Rattle.orders.specs.declared.Order.the-variants.{Post, Stand, Retry, Cut, Carry}
 use Rattle.nights.specs.Walk.{arrays, inside, to-is, bytes-are}
 
 -- ---- side by side

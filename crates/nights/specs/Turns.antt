@@ -26,12 +26,12 @@ use Rattle.world.specs.World.{World}
 use Rattle.keeps.specs.Sends.{every-does}
 use Rattle.reach.specs.Reached.{Reached, given-turned}
 use Rattle.reach.specs.Answers.{answers, carry-answers}
-use Rattle.rehearsal.specs.Night as Nights
+use Rattle.orders.specs.Night as Nights
 use Rattle.posting.specs.Posting.{roomOf}
-use Rattle.rehearsal.specs.Night.{fitting, turnOf, postOf}
-use Rattle.rehearsal.specs.declared.Night.{Night}
-use Rattle.rehearsal.specs.declared.Order.{Order}
-use Rattle.rehearsal.specs.declared.Order.the-variants.{Carry}
+use Rattle.orders.specs.Night.{fitting, turnOf, postOf}
+use Rattle.orders.specs.declared.Night.{Night}
+use Rattle.orders.specs.declared.Order.{Order}
+use Rattle.orders.specs.declared.Order.the-variants.{Carry}
 use Rattle.nights.specs.Walk.{all-append}
 use Rattle.nights.specs.Same.{told, Same, whose-same, given-same}
 

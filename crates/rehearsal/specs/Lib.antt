@@ -1,6 +1,3 @@
--- The rehearsal: what an order does to a night, over the bytes of its post.
-pub mod Night
+-- The rehearsal: what it promises of an order, and what a step comes to in its night.
 pub mod Promises
 pub mod Settled
-pub mod Alone
-pub mod Steps

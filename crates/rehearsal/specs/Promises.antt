@@ -8,10 +8,10 @@ use Rattle.plans.specs.declared.Plan.{Plan}
 use Rattle.records.specs.Answers.{Answered, one-answer}
 use Rattle.boxes.specs.Out.{Out, refused, does, recordsOf}
 use Rattle.boxes.specs.Promise.{wasDone, numberOf}
-use Rattle.rehearsal.specs.Night.{whose, given, turnOf, postOf, freshNight}
-use Rattle.rehearsal.specs.declared.Night.{Night}
-use Rattle.rehearsal.specs.declared.Order.{Order}
-use Rattle.rehearsal.specs.declared.Turn.{Turn}
+use Rattle.orders.specs.Night.{whose, given, turnOf, postOf, freshNight}
+use Rattle.orders.specs.declared.Night.{Night}
+use Rattle.orders.specs.declared.Order.{Order}
+use Rattle.orders.specs.declared.Turn.{Turn}
 
 -- fresh_night: fresh boxes, and nothing of the post is used
 abbrev pub NightFresh : Night → Type 0

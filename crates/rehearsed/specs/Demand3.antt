@@ -16,8 +16,8 @@ use Rattle.boxes.specs.Out.{does}
 use Rattle.boxes.specs.declared.BoxState.{BoxState}
 use Rattle.boxes.specs.declared.Delivery.{Delivery}
 use Rattle.demand3.specs.Words.{Rises, Once, SameOrder, ListBegins, Delivered}
-use Rattle.rehearsal.specs.Night.{whose}
-use Rattle.rehearsal.specs.declared.Order.{Order}
+use Rattle.orders.specs.Night.{whose}
+use Rattle.orders.specs.declared.Order.{Order}
 use Rattle.nights.specs.Runs.{answered}
 use Rattle.rehearsed.specs.Words.{afterwards, boxOn, Shows, FinalStamp, HandsOut, HandedBefore}
 

@@ -24,9 +24,9 @@ use Rattle.demand3.specs.Words.{Rises, Once, SameOrder, ListBegins, Delivered}
 use Rattle.safety.specs.Proved as Worldwide
 use Rattle.reach.specs.Reached.{Reached, given-turned}
 use Rattle.keeps.specs.Sends.{every-does}
-use Rattle.rehearsal.specs.Night as Nights
+use Rattle.orders.specs.Night as Nights
 use Rattle.posting.specs.Posting.{startOf}
-use Rattle.rehearsal.specs.declared.Order.{Order}
+use Rattle.orders.specs.declared.Order.{Order}
 use Rattle.nights.specs.Same.{told, inside-same, box-same, whose-same}
 use Rattle.nights.specs.Turns.{done-exists}
 use Rattle.nights.specs.Runs.{Stage, rehearsed, beginning, answered, isFull, kept, Beside, kept-then, step-answer, rehearsal-beside, rehearsal-reached, said-same}

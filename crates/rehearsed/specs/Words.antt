@@ -12,8 +12,8 @@ use Rattle.records.specs.Rec.{Rec, Handout, deliver}
 use Rattle.boxes.specs.Box.{rowAt}
 use Rattle.boxes.specs.declared.BoxState.{BoxState}
 use Rattle.posting.specs.Posting.{startOf}
-use Rattle.rehearsal.specs.Night.{boxIn}
-use Rattle.rehearsal.specs.declared.Order.{Order}
+use Rattle.orders.specs.Night.{boxIn}
+use Rattle.orders.specs.declared.Order.{Order}
 use Rattle.nights.specs.Runs.{Stage, rehearsed, beginning, saidAt}
 
 -- the night and the post after a list of orders, from fresh boxes and a lent post of any bytes of which none is used

@@ -15,8 +15,8 @@ use Rattle.laws.specs.Tray.{allFor}
 use Rattle.house.specs.Limits.{mostJobs}
 use Rattle.boxes.specs.Box.{listedAt}
 use Rattle.boxes.specs.declared.BoxState.{BoxState}
-use Rattle.rehearsal.specs.Night.{boxIn}
-use Rattle.rehearsal.specs.declared.Night.{Night}
+use Rattle.orders.specs.Night.{boxIn}
+use Rattle.orders.specs.declared.Night.{Night}
 use Rattle.texts.specs.Texts.{item}
 use Rattle.report.specs.Report.{jobsText, listText, boxText}
 use Rattle.endings.specs.Endings.{firstJobs, jobsOf, shownOf}

@@ -6,7 +6,7 @@ use mathlib.Core.Path.{_≡_, refl, ap, _∙_}
 use native.Mathlib.Omega.{arith}
 use lib.ListN.{length}
 use Rattle.laws.specs.Choice.{pick-false, or-right, not-of}
-use Rattle.rehearsal.specs.declared.Order.{Order}
+use Rattle.orders.specs.declared.Order.{Order}
 use Rattle.lines.specs.declared.Order as typed
 use Rattle.drawing.specs.Desk.{emptyDesk, districtsHere, jobHere}
 use Rattle.drawing.specs.declared.Desk.{Desk}

@@ -6,8 +6,8 @@ use mathlib.Core.Logic.{_⊎_, inl, inr}
 use mathlib.Core.Path.{_≡_, refl, sym, ap, subst, _∙_}
 use Rattle.laws.specs.Choice.{pick, look, never, and-right, or-fails, not-of}
 use Rattle.plans.specs.declared.Plan.{Plan}
-use Rattle.rehearsal.specs.declared.Order.{Order}
-use Rattle.rehearsal.specs.declared.Order as ask
+use Rattle.orders.specs.declared.Order.{Order}
+use Rattle.orders.specs.declared.Order as ask
 use Rattle.lines.specs.declared.Order as typed
 use Rattle.drawing.specs.Desk.{districtsHere, jobHere, withDistricts, withJob}
 use Rattle.drawing.specs.declared.Desk.{Desk}

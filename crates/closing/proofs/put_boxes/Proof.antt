@@ -3,7 +3,7 @@ use Rattle.closing.specs.Closing.{boxReport}
 use Rattle.endings.specs.Endings.{jobsOf, shownOf}
 use Rattle.endings.specs.Ends.{AllEnded, none-ended, of-boxes}
 use Rattle.endings.specs.Laws.{any-default, withBoxes}
-use Rattle.rehearsal.specs.Night.{boxIn}
+use Rattle.orders.specs.Night.{boxIn}
 use Rattle.boxes.specs.declared.BoxState.{BoxState}
 use Rattle.report.specs.Report.{boxText, boxMost}
 use Rattle.laws.specs.Tray.{onto, onto-nil, then, allFor, for-step}

@@ -4,7 +4,7 @@ use Rattle.endings.specs.declared.Committed.{Committed}
 use Rattle.endings.specs.declared.JobEnd.{JobEnd}
 use Rattle.endings.specs.Endings.{firstBelow, finished}
 use Rattle.endings.specs.Holders.{Ended}
-use Rattle.rehearsal.specs.declared.Night.{Night}
+use Rattle.orders.specs.declared.Night.{Night}
 use Rattle.report.specs.Report.{jobText}
 use Rattle.plans.specs.Says.{plan-says}
 use Rattle.plans.specs.Plan.{boxesOf}

@@ -4,7 +4,7 @@ use Rattle.endings.specs.Ends.{AllEnded}
 use Rattle.report.specs.Report.{jobMost}
 use Rattle.plans.specs.Plan.{boxesOf}
 use Rattle.plans.specs.declared.Plan.{Plan}
-use Rattle.rehearsal.specs.declared.Night.{Night}
+use Rattle.orders.specs.declared.Night.{Night}
 use Rattle.laws.specs.Tray.{onto, onto-nil, then, allFor, for-step}
 use lib.ListN.{length}
 use native.Mathlib.Omega.{arith}

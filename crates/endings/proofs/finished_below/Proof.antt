@@ -1,7 +1,7 @@
 -- `endings::finished_below` meets its contract.
 use Rattle.endings.specs.Endings.{doneIn, finished}
 use Rattle.endings.specs.Holders.{Holders}
-use Rattle.rehearsal.specs.declared.Night.{Night}
+use Rattle.orders.specs.declared.Night.{Night}
 use Rattle.plans.specs.Plan.{sizeOf}
 use Rattle.laws.specs.Fold.{allBelow, all-step}
 use Prim.Native.Nat.{_-_, _*_, _≤_}

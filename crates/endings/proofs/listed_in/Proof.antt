@@ -1,8 +1,8 @@
 -- `endings::listed_in` meets its contract.
 use Rattle.endings.specs.Endings.{listedIn}
 use Rattle.endings.specs.Holders.{Holders}
-use Rattle.rehearsal.specs.Night.{boxIn}
-use Rattle.rehearsal.specs.declared.Night.{Night}
+use Rattle.orders.specs.Night.{boxIn}
+use Rattle.orders.specs.declared.Night.{Night}
 use Rattle.boxes.specs.Box.{onList}
 use Rattle.laws.specs.Fold.{someBelow, some-step}
 use Prim.Native.Nat.{ℕ, _+_, _-_, _≤_}

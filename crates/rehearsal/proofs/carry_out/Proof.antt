@@ -1,7 +1,7 @@
 -- `rehearsal::carry_out` meets its contract.
-use Rattle.rehearsal.specs.Alone.{Stands}
+use Rattle.orders.specs.Alone.{Stands}
 use Rattle.rehearsal.specs.Settled.{wrote, turned-does, turned-full}
-use Rattle.rehearsal.specs.Steps.{Goes, stepOf}
+use Rattle.orders.specs.Steps.{Goes, stepOf}
 use borrow.Author.Needs.{needs}
 use Rattle.rehearsal.proofs.carry_out.Statement.{statement}
 use Rattle.rehearsal.proofs.carry_out.Tie as tie

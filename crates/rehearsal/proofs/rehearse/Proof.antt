@@ -1,8 +1,8 @@
 -- `rehearsal::rehearse` meets its contract.
-use Rattle.rehearsal.specs.Alone.{found-stands, alone-is}
-use Rattle.rehearsal.specs.Night.{boxIn}
+use Rattle.orders.specs.Alone.{found-stands, alone-is}
+use Rattle.orders.specs.Night.{boxIn}
 use Rattle.rehearsal.specs.Settled.{rehearsed-no}
-use Rattle.rehearsal.specs.Steps.{Judges}
+use Rattle.orders.specs.Steps.{Judges}
 use Rattle.posting.specs.Index.{indexed-none}
 use Rattle.laws.specs.Choice.{never}
 use native.Mathlib.Omega.{arith}

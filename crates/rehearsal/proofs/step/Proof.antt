@@ -1,5 +1,5 @@
 -- `rehearsal::step` meets its contract.
-use Rattle.rehearsal.specs.Steps.{sends-fit}
+use Rattle.orders.specs.Steps.{sends-fit}
 use Rattle.laws.specs.Tray.{onto-nil}
 use Rattle.sends.specs.Sends.{encode-none}
 use mathlib.Core.Path.{sym}

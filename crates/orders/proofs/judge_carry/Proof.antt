@@ -1,8 +1,8 @@
--- `rehearsal::judge_carry` meets its contract.
-use Rattle.rehearsal.specs.Steps.{judges-no, none-such, acts-no, carry-unsound, carry-judges, carry-exists, carry-bytes, part-up}
-use Rattle.rehearsal.specs.Alone.{here}
-use Rattle.rehearsal.specs.Night.{exists}
-use Rattle.rehearsal.specs.declared.Order.the-variants.{Carry}
+-- `orders::judge_carry` meets its contract.
+use Rattle.orders.specs.Steps.{judges-no, none-such, acts-no, carry-unsound, carry-judges, carry-exists, carry-bytes, part-up}
+use Rattle.orders.specs.Alone.{here}
+use Rattle.orders.specs.Night.{exists}
+use Rattle.orders.specs.declared.Order.the-variants.{Carry}
 use Rattle.acting.specs.Judging.{Judging}
 use Rattle.records.specs.Answers.{notSound}
 use Prim.Native.Nat.{ℕ, _≤_}
@@ -11,8 +11,8 @@ use mathlib.Core.Bool.{true}
 use mathlib.Core.List.{List}
 use mathlib.Core.Path.{_≡_, sym, subst, _∙_}
 use borrow.Author.Needs.{needs}
-use Rattle.rehearsal.proofs.judge_carry.Statement.{statement}
-use Rattle.rehearsal.proofs.judge_carry.Tie as tie
+use Rattle.orders.proofs.judge_carry.Statement.{statement}
+use Rattle.orders.proofs.judge_carry.Tie as tie
 
 there : (c : tie.Then1) → exists (c .before .before .before .before .args .plan) (here (c .before .before .before .before .args .used)) (c .before .before .before .before .args .post .now) (Carry (c .before .before .before .before .args .k)) ≡ true
 there c =

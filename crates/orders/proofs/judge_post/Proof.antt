@@ -1,15 +1,15 @@
--- `rehearsal::judge_post` meets its contract.
-use Rattle.rehearsal.specs.Steps.{judges-no, judges-go, none-such, goes-post}
+-- `orders::judge_post` meets its contract.
+use Rattle.orders.specs.Steps.{judges-no, judges-go, none-such, goes-post}
 use Rattle.acting.specs.Orders.{posts-sent}
-use Rattle.rehearsal.specs.Night.{exists}
-use Rattle.rehearsal.specs.declared.Order.the-variants.{Post}
+use Rattle.orders.specs.Night.{exists}
+use Rattle.orders.specs.declared.Order.the-variants.{Post}
 use Rattle.plans.specs.Plan.{officeOf, isJob}
 use Rattle.records.specs.Rec.{multicast, carried}
 use borrow.Author.Tests.{lt-ltb, le-ltb}
 use mathlib.Core.Path.{_≡_, _∙_}
 use borrow.Author.Needs.{needs}
-use Rattle.rehearsal.proofs.judge_post.Statement.{statement}
-use Rattle.rehearsal.proofs.judge_post.Tie as tie
+use Rattle.orders.proofs.judge_post.Statement.{statement}
+use Rattle.orders.proofs.judge_post.Tie as tie
 
 cast-if1 : tie.Need-cast-if1
 cast-if1 c = search needs

@@ -1,8 +1,8 @@
--- `rehearsal::known_plan` meets its contract.
+-- `orders::known_plan` meets its contract.
 use mathlib.Core.Path.{sym}
 use borrow.Author.Needs.{needs}
-use Rattle.rehearsal.proofs.known_plan.Statement.{statement}
-use Rattle.rehearsal.proofs.known_plan.Tie as tie
+use Rattle.orders.proofs.known_plan.Statement.{statement}
+use Rattle.orders.proofs.known_plan.Tie as tie
 
 returns : tie.Need-returns
 returns c = sym (c .before .pre (c .if1 .taken))

@@ -1,8 +1,8 @@
--- `rehearsal::judge_cut` meets its contract.
-use Rattle.rehearsal.specs.Steps.{judges-no, judges-go, none-such, acts-no, goes-kept, cut-unsound, cut-acts, cut-keeps}
-use Rattle.rehearsal.specs.Alone.{here}
-use Rattle.rehearsal.specs.Night.{exists}
-use Rattle.rehearsal.specs.declared.Order.the-variants.{Cut}
+-- `orders::judge_cut` meets its contract.
+use Rattle.orders.specs.Steps.{judges-no, judges-go, none-such, acts-no, goes-kept, cut-unsound, cut-acts, cut-keeps}
+use Rattle.orders.specs.Alone.{here}
+use Rattle.orders.specs.Night.{exists}
+use Rattle.orders.specs.declared.Order.the-variants.{Cut}
 use Rattle.records.specs.Answers.{notSound}
 use Rattle.plans.specs.Plan.{boxesOf}
 use borrow.Author.Tests.{lt-ltb, le-ltb}
@@ -12,8 +12,8 @@ use mathlib.Core.Bool.{true}
 use mathlib.Core.List.{List}
 use mathlib.Core.Path.{_≡_, refl, sym, _∙_}
 use borrow.Author.Needs.{needs}
-use Rattle.rehearsal.proofs.judge_cut.Statement.{statement}
-use Rattle.rehearsal.proofs.judge_cut.Tie as tie
+use Rattle.orders.proofs.judge_cut.Statement.{statement}
+use Rattle.orders.proofs.judge_cut.Tie as tie
 
 there : (c : tie.Then1) (used : ℕ) (s : List ℕ) → exists (c .before .before .args .plan) (here used) s (Cut (c .before .before .args .p)) ≡ true
 unfolding exists

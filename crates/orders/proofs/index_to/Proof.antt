@@ -1,9 +1,9 @@
--- `rehearsal::index_to` meets its contract.
+-- `orders::index_to` meets its contract.
 use Rattle.laws.specs.Choice.{never}
 use mathlib.Core.Path.{refl}
 use borrow.Author.Needs.{needs}
-use Rattle.rehearsal.proofs.index_to.Statement.{statement}
-use Rattle.rehearsal.proofs.index_to.Tie as tie
+use Rattle.orders.proofs.index_to.Statement.{statement}
+use Rattle.orders.proofs.index_to.Tie as tie
 
 extend-requires : tie.Need-extend-requires
 extend-requires c κs = search needs

@@ -1,10 +1,10 @@
--- `rehearsal::judge` meets its contract.
-use Rattle.rehearsal.specs.Steps.{judges-no, judges-as, plan-off}
+-- `orders::judge` meets its contract.
+use Rattle.orders.specs.Steps.{judges-no, judges-as, plan-off}
 use Rattle.acting.specs.Judging.{sound-plan}
 use mathlib.Core.Path.{sym, _∙_}
 use borrow.Author.Needs.{needs}
-use Rattle.rehearsal.proofs.judge.Statement.{statement}
-use Rattle.rehearsal.proofs.judge.Tie as tie
+use Rattle.orders.proofs.judge.Statement.{statement}
+use Rattle.orders.proofs.judge.Tie as tie
 
 known-plan-requires : tie.Need-known-plan-requires
 known-plan-requires c κs = λ h. let a = c .before in sound-plan (a .args .plan) (a .args .x) (sym (a .pre .0) ∙ h)

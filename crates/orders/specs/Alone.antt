@@ -24,11 +24,11 @@ use Rattle.boxes.specs.Orders.{posts}
 use Rattle.boxes.specs.Step.{receives, retried, stood, cutOff}
 use Rattle.boxes.specs.declared.BoxState.{BoxState}
 use Rattle.boxes.specs.declared.Delivery.the-variants.{Nothing}
-use Rattle.rehearsal.specs.Night.{boxIn, whose, exists, acts, fitting, ifFits, given}
-use Rattle.rehearsal.specs.declared.Night.{Night}
-use Rattle.rehearsal.specs.declared.Order.{Order}
-use Rattle.rehearsal.specs.declared.Place.{Place}
-use Rattle.rehearsal.specs.declared.Order.the-variants.{Post, Stand, Retry, Cut, Carry}
+use Rattle.orders.specs.Night.{boxIn, whose, exists, acts, fitting, ifFits, given}
+use Rattle.orders.specs.declared.Night.{Night}
+use Rattle.orders.specs.declared.Order.{Order}
+use Rattle.orders.specs.declared.Place.{Place}
+use Rattle.orders.specs.declared.Order.the-variants.{Post, Stand, Retry, Cut, Carry}
 
 -- the box stands at a place of the night, and the order is for that place, if the plan is sound and there is one that it is for
 pub record Stands (P : Plan) (used : ℕ) (x : BoxState) (s : List ℕ) (o : Order) (n : Night) (at : ℕ) : Type 0 where

@@ -1,7 +1,7 @@
--- `rehearsal::refuse` meets its contract.
+-- `orders::refuse` meets its contract.
 use borrow.Author.Needs.{needs}
-use Rattle.rehearsal.proofs.refuse.Statement.{statement}
-use Rattle.rehearsal.proofs.refuse.Tie as tie
+use Rattle.orders.proofs.refuse.Statement.{statement}
+use Rattle.orders.proofs.refuse.Tie as tie
 
 no-record-requires : tie.Need-no-record-requires
 no-record-requires c κs = search needs

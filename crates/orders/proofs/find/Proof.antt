@@ -1,9 +1,9 @@
--- `rehearsal::find` meets its contract.
-use Rattle.rehearsal.specs.Alone.{found-as, post-found, stand-found, retry-found, cut-found}
+-- `orders::find` meets its contract.
+use Rattle.orders.specs.Alone.{found-as, post-found, stand-found, retry-found, cut-found}
 use mathlib.Core.Path.{refl}
 use borrow.Author.Needs.{needs}
-use Rattle.rehearsal.proofs.find.Statement.{statement}
-use Rattle.rehearsal.proofs.find.Tie as tie
+use Rattle.orders.proofs.find.Statement.{statement}
+use Rattle.orders.proofs.find.Tie as tie
 
 enum-known-order : tie.Need-enum-known-order
 enum-known-order c = search needs

@@ -1,8 +1,8 @@
--- `rehearsal::judge_stand` meets its contract.
-use Rattle.rehearsal.specs.Steps.{judges-no, judges-go, none-such, acts-no, goes-kept, stand-unsound, stand-acts, stand-keeps}
-use Rattle.rehearsal.specs.Alone.{here}
-use Rattle.rehearsal.specs.Night.{exists}
-use Rattle.rehearsal.specs.declared.Order.the-variants.{Stand}
+-- `orders::judge_stand` meets its contract.
+use Rattle.orders.specs.Steps.{judges-no, judges-go, none-such, acts-no, goes-kept, stand-unsound, stand-acts, stand-keeps}
+use Rattle.orders.specs.Alone.{here}
+use Rattle.orders.specs.Night.{exists}
+use Rattle.orders.specs.declared.Order.the-variants.{Stand}
 use Rattle.acting.specs.Orders.{stand-is, standing-sent}
 use Rattle.leading.specs.Room.{stand-room}
 use Rattle.records.specs.Answers.{notSound}
@@ -14,8 +14,8 @@ use mathlib.Core.Bool.{true}
 use mathlib.Core.List.{List}
 use mathlib.Core.Path.{_≡_, refl, sym, _∙_}
 use borrow.Author.Needs.{needs}
-use Rattle.rehearsal.proofs.judge_stand.Statement.{statement}
-use Rattle.rehearsal.proofs.judge_stand.Tie as tie
+use Rattle.orders.proofs.judge_stand.Statement.{statement}
+use Rattle.orders.proofs.judge_stand.Tie as tie
 
 there : (c : tie.Then1) (used : ℕ) (s : List ℕ) → exists (c .before .before .args .plan) (here used) s (Stand (c .before .before .args .p)) ≡ true
 unfolding exists

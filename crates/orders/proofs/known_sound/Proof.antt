@@ -1,10 +1,10 @@
--- `rehearsal::known_sound` meets its contract.
+-- `orders::known_sound` meets its contract.
 use Rattle.keeps.specs.Sound.{Lengths}
 use Rattle.looking.specs.Long.{long-map}
 use mathlib.Core.Path.{sym}
 use borrow.Author.Needs.{needs}
-use Rattle.rehearsal.proofs.known_sound.Statement.{statement}
-use Rattle.rehearsal.proofs.known_sound.Tie as tie
+use Rattle.orders.proofs.known_sound.Statement.{statement}
+use Rattle.orders.proofs.known_sound.Tie as tie
 
 -- owning a box says how long its arrays are
 lengths : (c : tie.Start) → Lengths (c .args .x)

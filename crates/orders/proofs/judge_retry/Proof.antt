@@ -1,8 +1,8 @@
--- `rehearsal::judge_retry` meets its contract.
-use Rattle.rehearsal.specs.Steps.{judges-no, judges-go, none-such, acts-no, goes-kept, retry-unsound, retry-acts, retry-keeps}
-use Rattle.rehearsal.specs.Alone.{here}
-use Rattle.rehearsal.specs.Night.{exists}
-use Rattle.rehearsal.specs.declared.Order.the-variants.{Retry}
+-- `orders::judge_retry` meets its contract.
+use Rattle.orders.specs.Steps.{judges-no, judges-go, none-such, acts-no, goes-kept, retry-unsound, retry-acts, retry-keeps}
+use Rattle.orders.specs.Alone.{here}
+use Rattle.orders.specs.Night.{exists}
+use Rattle.orders.specs.declared.Order.the-variants.{Retry}
 use Rattle.acting.specs.Orders.{retry-is, retries-sent}
 use Rattle.records.specs.Answers.{notSound}
 use Rattle.plans.specs.Plan.{isJob}
@@ -16,8 +16,8 @@ use mathlib.Core.Bool.{true, false, _&&_}
 use mathlib.Core.List.{List}
 use mathlib.Core.Path.{_≡_, refl, sym, _∙_}
 use borrow.Author.Needs.{needs}
-use Rattle.rehearsal.proofs.judge_retry.Statement.{statement}
-use Rattle.rehearsal.proofs.judge_retry.Tie as tie
+use Rattle.orders.proofs.judge_retry.Statement.{statement}
+use Rattle.orders.proofs.judge_retry.Tie as tie
 
 there : (c : tie.Then1) (used : ℕ) (s : List ℕ) → exists (c .before .before .before .args .plan) (here used) s (Retry (c .before .before .before .args .p) (c .before .before .before .args .j)) ≡ true
 unfolding exists isJob

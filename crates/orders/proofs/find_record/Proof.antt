@@ -1,8 +1,8 @@
--- `rehearsal::find_record` meets its contract.
-use Rattle.rehearsal.specs.Alone.{starts-carry, carry-asked}
+-- `orders::find_record` meets its contract.
+use Rattle.orders.specs.Alone.{starts-carry, carry-asked}
 use borrow.Author.Needs.{needs}
-use Rattle.rehearsal.proofs.find_record.Statement.{statement}
-use Rattle.rehearsal.proofs.find_record.Tie as tie
+use Rattle.orders.proofs.find_record.Statement.{statement}
+use Rattle.orders.proofs.find_record.Tie as tie
 
 index-to-requires : tie.Need-index-to-requires
 index-to-requires c κs = search needs

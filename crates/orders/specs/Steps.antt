@@ -34,10 +34,10 @@ use Rattle.acting.specs.Acting.{Acting, every-fits, guard-on}
 use Rattle.acting.specs.Judged.{judged, judged-done}
 use Rattle.acting.specs.Judging.{Judging, guard-off, receives-every}
 use Rattle.acting.specs.Orders.{standing}
-use Rattle.rehearsal.specs.Night.{exists, ifFits}
-use Rattle.rehearsal.specs.Alone.{here, actsOn, alone}
-use Rattle.rehearsal.specs.declared.Order.{Order}
-use Rattle.rehearsal.specs.declared.Order.the-variants.{Post, Stand, Retry, Cut, Carry}
+use Rattle.orders.specs.Night.{exists, ifFits}
+use Rattle.orders.specs.Alone.{here, actsOn, alone}
+use Rattle.orders.specs.declared.Order.{Order}
+use Rattle.orders.specs.declared.Order.the-variants.{Post, Stand, Retry, Cut, Carry}
 
 -- the step of an order that nothing refuses; a carry takes the record r
 abbrev pub stepOf : Plan → BoxState → Order → Record → Out
