@@ -20,10 +20,10 @@ use Rattle.boxes.specs.Box.{fresh}
 use Rattle.boxes.specs.Sound.{sound}
 use Rattle.boxes.specs.declared.BoxState.{BoxState}
 use Rattle.posting.specs.Index.{Indexed, indexed-first, indexed-grown}
-use Rattle.rehearsal.specs.Night.{boxIn}
-use Rattle.rehearsal.specs.Alone.{Found}
-use Rattle.rehearsal.specs.declared.Night.{Night}
-use Rattle.rehearsal.specs.declared.Place.{Place}
+use Rattle.orders.specs.Night.{boxIn}
+use Rattle.orders.specs.Alone.{Found}
+use Rattle.orders.specs.declared.Night.{Night}
+use Rattle.orders.specs.declared.Place.{Place}
 use Rattle.drawing.specs.declared.Desk.{Desk}
 use Rattle.hearing.specs.Heard.{After, handled}
 use Rattle.hearing.specs.Hears.{askOf, Hears}

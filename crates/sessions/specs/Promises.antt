@@ -5,8 +5,8 @@ use mathlib.Core.List.{List}
 use mathlib.Core.Path.{_≡_, sym, ap, _∙_}
 use lib.ListN.{take}
 use Rattle.laws.specs.Tray.{onto}
-use Rattle.rehearsal.specs.declared.Night.{Night}
-use Rattle.rehearsal.specs.Night.{freshNight}
+use Rattle.orders.specs.declared.Night.{Night}
+use Rattle.orders.specs.Night.{freshNight}
 use Rattle.lines.specs.declared.LineState.{LineState}
 use Rattle.lines.specs.Held.{noLine}
 use Rattle.lines.specs.Feed.{Reading}

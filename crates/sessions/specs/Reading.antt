@@ -22,12 +22,12 @@ use Rattle.lines.specs.Feed.{Reading}
 use Rattle.lines.specs.declared.LineState.{LineState}
 use Rattle.lines.specs.declared.Order.{Order}
 use Rattle.texts.specs.Texts.{answerMost}
-use Rattle.rehearsal.specs.Night.{boxIn}
-use Rattle.rehearsal.specs.Alone.{Stands, Found, found-stands}
-use Rattle.rehearsal.specs.Steps.{stepOf}
+use Rattle.orders.specs.Night.{boxIn}
+use Rattle.orders.specs.Alone.{Stands, Found, found-stands}
+use Rattle.orders.specs.Steps.{stepOf}
 use Rattle.rehearsal.specs.Settled.{Settles, turned-does, turned-full, settles-front, settles-more, after-state}
-use Rattle.rehearsal.specs.declared.Night.{Night}
-use Rattle.rehearsal.specs.declared.Place.{Place}
+use Rattle.orders.specs.declared.Night.{Night}
+use Rattle.orders.specs.declared.Place.{Place}
 use Rattle.rehearsal.specs.declared.Settled.{Settled}
 use Rattle.drawing.specs.declared.Desk.{Desk}
 use Rattle.drawing.specs.Desk.{fixedDesk}

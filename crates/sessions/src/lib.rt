@@ -10,7 +10,7 @@ ghost use Rattle.sessions.specs.Session.{chunkOf};
 ghost use Rattle.sessions.specs.Promises.{Begun, Leaves, ChunkFed, LastFed};
 use drawing::Desk;
 use lines::LineState;
-use rehearsal::Night;
+use orders::Night;
 
 // the room of one answer, the bytes of input that are read at once, and the room of their answers: at most one for each byte
 pub const ANSWER_ROOM: usize = 14;
@@ -77,7 +77,7 @@ fn feed_into(s: Session, chunk: &[u8], post: &mut [u8], t: &mut [u8]) -> Fed
     let mut used = night.used;
     let mut desk = s.desk;
     let mut line = s.line;
-    let mut known = [false; rehearsal::MOST_BOXES];
+    let mut known = [false; orders::MOST_BOXES];
     let mut index = [0u16; posting::INDEX_ROOM];
     let mut tray = [0u8; house::LEAST_TRAY];
     let mut count = 0;
@@ -103,7 +103,7 @@ fn feed_into(s: Session, chunk: &[u8], post: &mut [u8], t: &mut [u8]) -> Fed
         let typed = lines::order_held(whole);
         let order = hearing::order_of(typed);
         let plan = desk.plan;
-        let place = rehearsal::find(plan, desk.fixed, used, order, post, &mut index, count);
+        let place = orders::find(plan, desk.fixed, used, order, post, &mut index, count);
         let at = place.at;
         let x = boxes[at];
         let sure = known[at];

@@ -3,10 +3,10 @@ use Prim.Native.Nat.{_-_, _*_, _≤_, _<_}
 use Rattle.sessions.specs.Lines.{fed-is, holds-on, none-known}
 use Rattle.sessions.specs.Reading.{Reads, passes, steps, full}
 use Rattle.sessions.specs.Session.{World, chunkOf, fedOf}
-use Rattle.rehearsal.specs.Alone.{box-in}
+use Rattle.orders.specs.Alone.{box-in}
 use Rattle.rehearsal.specs.Settled.{wrote}
-use Rattle.rehearsal.specs.Steps.{stepOf}
-use Rattle.rehearsal.specs.declared.Night.{Night}
+use Rattle.orders.specs.Steps.{stepOf}
+use Rattle.orders.specs.declared.Night.{Night}
 use Rattle.posting.specs.Index.{indexed-none}
 use Rattle.boxes.specs.Sound.{sound}
 use Rattle.looking.specs.Long.{long-map}
