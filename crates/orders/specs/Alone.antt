@@ -24,7 +24,7 @@ use Rattle.boxes.specs.Orders.{posts}
 use Rattle.boxes.specs.Step.{receives, retried, stood, cutOff}
 use Rattle.boxes.specs.declared.BoxState.{BoxState}
 use Rattle.boxes.specs.declared.Delivery.the-variants.{Nothing}
-use Rattle.orders.specs.Night.{boxIn, whose, exists, acts, fitting, ifFits, given}
+use Rattle.orders.specs.Night.{mostBoxes, boxIn, whose, exists, acts, fitting, ifFits, given}
 use Rattle.orders.specs.declared.Night.{Night}
 use Rattle.orders.specs.declared.Order.{Order}
 use Rattle.orders.specs.declared.Place.{Place}
@@ -59,7 +59,7 @@ Starts P s used o start = (k : ℕ) → o ≡ Carry k → start ≡ startOf P s 
 -- where an order is looked for: the box that it is for, and the beginning of the record that it carries. The index stays right; it
 -- goes on only where the plan is fixed
 pub record Found (P : Plan) (fixed : Bool) (used : ℕ) (o : Order) (s : List ℕ) (count : ℕ) (r : Place) (index : List ℕ) : Type 0 where
-  pub at-low : r .at < 12
+  pub at-low : r .at < mostBoxes
   pub asked : planSound P ≡ true → exists P (here used) s o ≡ true → r .at ≡ whose P (here used) s o
   pub start-low : r .start ≤ mostPlace
   pub starts : Starts P s used o (r .start)
@@ -137,7 +137,7 @@ pub found-as : {P : Plan} {fixed : Bool} {used : ℕ} {o p : Order} {s : List �
 found-as e F = rw e F
 
 -- a box below the plan's number of boxes has its own place
-module _ (P : Plan) (r p : ℕ) (is : p < 12 → r ≡ p) where
+module _ (P : Plan) (r p : ℕ) (is : p < mostBoxes → r ≡ p) where
   in-night : planSound P ≡ true → ltb p (boxesOf P) ≡ true → r ≡ p
   in-night s h = let l = ltb-true p (boxesOf P) h in let m = boxes-most P s in is (omega (arith, l, m))
 
@@ -151,22 +151,22 @@ module _ (P : Plan) (r p : ℕ) (is : p < 12 → r ≡ p) where
 
   -- an order that carries nothing
   module _ {fixed : Bool} {used : ℕ} {s : List ℕ} {count : ℕ} {index : List ℕ} (I : Indexed P s used index count) where
-    here-found : (o : Order) → r < 12 → ((k : ℕ) → o ≡ Carry k → ⊥) → (planSound P ≡ true → exists P (here used) s o ≡ true → r ≡ whose P (here used) s o)
+    here-found : (o : Order) → r < mostBoxes → ((k : ℕ) → o ≡ Carry k → ⊥) → (planSound P ≡ true → exists P (here used) s o ≡ true → r ≡ whose P (here used) s o)
         → Found P fixed used o s count (record { at = r; start = 0; count = count }) index
     here-found o l n w = record { at-low = l; asked = w; start-low = omega arith; starts = λ k q. absurd (n k q); indexed = I; stays = λ h. refl }
 
-    pub post-found : (j : ℕ) → r < 12 → p ≡ 0 → Found P fixed used (Post j) s count (record { at = r; start = 0; count = count }) index
+    pub post-found : (j : ℕ) → r < mostBoxes → p ≡ 0 → Found P fixed used (Post j) s count (record { at = r; start = 0; count = count }) index
     unfolding whose
     post-found j l z = here-found (Post j) l (λ k q. let w : _≡_ {A = ℕ} 0 1 = cc in omega arith) (λ h e. is (omega (arith, z)) ∙ z)
 
-    pub stand-found : r < 12 → Found P fixed used (Stand p) s count (record { at = r; start = 0; count = count }) index
+    pub stand-found : r < mostBoxes → Found P fixed used (Stand p) s count (record { at = r; start = 0; count = count }) index
     unfolding whose exists
     stand-found l = here-found (Stand p) l (λ k q. let w : _≡_ {A = ℕ} 0 1 = cc in omega arith) (λ h e. in-night h e)
 
-    pub retry-found : (j : ℕ) → r < 12 → Found P fixed used (Retry p j) s count (record { at = r; start = 0; count = count }) index
+    pub retry-found : (j : ℕ) → r < mostBoxes → Found P fixed used (Retry p j) s count (record { at = r; start = 0; count = count }) index
     unfolding whose exists
     retry-found j l = here-found (Retry p j) l (λ k q. let w : _≡_ {A = ℕ} 0 1 = cc in omega arith) (λ h e. in-night h (and-left (ltb p (boxesOf P)) (isJob P j) e))
 
-    pub cut-found : r < 12 → Found P fixed used (Cut p) s count (record { at = r; start = 0; count = count }) index
+    pub cut-found : r < mostBoxes → Found P fixed used (Cut p) s count (record { at = r; start = 0; count = count }) index
     unfolding whose exists
     cut-found l = here-found (Cut p) l (λ k q. let w : _≡_ {A = ℕ} 0 1 = cc in omega arith) (λ h e. in-night h e)

@@ -10,6 +10,7 @@ ghost use Rattle.boxes.specs.Sound.{sound};
 ghost use Rattle.keeps.specs.Sound.{Lengths};
 ghost use Rattle.posting.specs.Posting.{mostPlace, startOf};
 ghost use Rattle.posting.specs.Index.{Indexed};
+ghost use Rattle.orders.specs.Night.{mostBoxes};
 ghost use Rattle.orders.specs.Alone.{Found, Starts};
 ghost use Rattle.orders.specs.Steps.{Judges};
 ghost use Rattle.orders.specs.declared.Order.the-variants.{Post, Stand, Retry, Cut, Carry};
@@ -53,9 +54,9 @@ pub struct Place {
 
 // a place of the night, the first for a number that has none
 fn place_of(p: u32) -> usize
-    ensures { λ r. ⌜ (r < 12) × (p < 12 → r ≡ p) ⌝ }
+    ensures { λ r. ⌜ (r < mostBoxes) × (p < mostBoxes → r ≡ p) ⌝ }
 {
-    if p < 12 {
+    if p < MOST_BOXES as u32 {
         return p as usize;
     }
     0
@@ -105,7 +106,7 @@ fn find_record(
 
 // the place of an order that carries nothing
 fn find_box(p: u32, count: usize) -> Place
-    ensures { λ r. ⌜ ((at : ℕ) × (r ≡ record { at = at; start = 0; count = count }) × (at < 12) × (p < 12 → at ≡ p)) ⌝ }
+    ensures { λ r. ⌜ ((at : ℕ) × (r ≡ record { at = at; start = 0; count = count }) × (at < mostBoxes) × (p < mostBoxes → at ≡ p)) ⌝ }
 {
     Place {
         at: place_of(p),

@@ -14,7 +14,7 @@ ghost use Rattle.boxes.specs.Orders.{cut};
 ghost use Rattle.boxes.specs.Out.{does, resultOf, recordsOf};
 ghost use Rattle.boxes.specs.declared.Delivery.the-variants.{Nothing};
 ghost use Rattle.sends.specs.Sends.{Sends, sentBytes};
-ghost use Rattle.orders.specs.Night.{boxIn};
+ghost use Rattle.orders.specs.Night.{mostBoxes, boxIn};
 ghost use Rattle.orders.specs.Alone.{Stands};
 ghost use Rattle.orders.specs.Steps.{stepOf, Can, Goes};
 ghost use Rattle.rehearsal.specs.Promises.{NightFresh, OrderRehearsed};
@@ -105,7 +105,7 @@ pub fn settle(used: usize, more: usize, tray: &[u8], post: &mut [u8]) -> Settled
 }
 
 fn put_box(night: Night, at: usize, x: BoxState, used: usize) -> Night
-    requires { ⌜ at < 12 ⌝ }
+    requires { ⌜ at < mostBoxes ⌝ }
     ensures { λ n. ⌜ n ≡ record { boxes = set (night .boxes) at x; used = used } ⌝ }
 {
     let mut boxes = night.boxes;
@@ -117,7 +117,7 @@ fn put_box(night: Night, at: usize, x: BoxState, used: usize) -> Night
 }
 
 fn box_at(night: Night, at: usize) -> BoxState
-    requires { ⌜ at < 12 ⌝ }
+    requires { ⌜ at < mostBoxes ⌝ }
     ensures { λ x. ⌜ x ≡ boxIn night at ⌝ }
 {
     let boxes = night.boxes;
@@ -126,7 +126,7 @@ fn box_at(night: Night, at: usize) -> BoxState
 
 // an order that nothing refuses but a full post, in its night
 fn carry_out(plan: Plan, night: Night, at: usize, order: Order, r: Record, post: &mut [u8]) -> Turn
-    requires { ⌜ (at < 12) × Goes plan (night .used) (boxIn night at) (now post) order r ⌝ }
+    requires { ⌜ (at < mostBoxes) × Goes plan (night .used) (boxIn night at) (now post) order r ⌝ }
     ensures { λ t. ⌜ (Stands plan (night .used) (boxIn night at) (now (post .entry)) order night at → OrderRehearsed plan night (now (post .entry)) order t (now (post .exit))) ⌝ }
 {
     let x = box_at(night, at);
