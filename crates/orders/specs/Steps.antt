@@ -1,12 +1,12 @@
 -- An order judged over the box as it is: refused, or done as a step of the box, with the record that the box takes or sends.
-use Prim.Native.Nat.{ℕ, _+_, _-_, _≤_}
+use Prim.Native.Nat.{ℕ, _+_, _-_, _≤_, _<_}
 use mathlib.Core.Bool.{Bool, true, false, _&&_}
 use mathlib.Core.List.{List, []}
 use mathlib.Core.Path.{_≡_, refl, ap, _∙_}
 use native.Mathlib.Omega.{arith}
 use lib.ListN.{length, take, drop, getD}
 use lib.Dec.{ltb}
-use borrow.Author.Tests.{le-leb}
+use borrow.Author.Tests.{le-leb, lt-ltb, le-ltb}
 use Rattle.laws.specs.Choice.{pick, pick-when}
 use Rattle.house.specs.Limits.{leastTray}
 use Rattle.plans.specs.Plan.{boxesOf, planSound}
@@ -135,6 +135,16 @@ unfolding actsOn
 goes-post P used x s j r p h c =
     let f = posts-fit P j p in
     record { plan-sound = p; there = h; can = c; done = refl; fits = omega arith; is = acts-on P used x s (Post j) r p h refl; stays = λ q. q }
+
+-- stand and cut ask whether the plan has the box, and nothing else
+module _ (P : Plan) (used : ℕ) (s : List ℕ) (p n : ℕ) (e : n ≡ boxesOf P) where
+  pub box-there : p < n → (exists P (here used) s (Stand p) ≡ true) × (exists P (here used) s (Cut p) ≡ true)
+  unfolding exists
+  box-there l = let h = lt-ltb p (boxesOf P) (omega (arith, e, l)) in (h, h)
+
+  pub box-missing : n ≤ p → (exists P (here used) s (Stand p) ≡ false) × (exists P (here used) s (Cut p) ≡ false)
+  unfolding exists
+  box-missing l = let h = le-ltb p (boxesOf P) (omega (arith, e, l)) in (h, h)
 
 -- a box that is not sound answers 1
 module _ (P : Plan) (used : ℕ) (x : BoxState) (s : List ℕ) (h : sound P x ≡ false) where

@@ -1,15 +1,12 @@
 -- `orders::judge_stand` meets its contract.
-use Rattle.orders.specs.Steps.{judges-no, judges-go, none-such, acts-no, goes-kept, stand-unsound, stand-acts, stand-keeps}
+use Rattle.orders.specs.Steps.{judges-no, judges-go, none-such, box-there, box-missing, acts-no, goes-kept, stand-unsound, stand-acts, stand-keeps}
 use Rattle.orders.specs.Alone.{here}
 use Rattle.orders.specs.Night.{exists}
 use Rattle.orders.specs.declared.Order.the-variants.{Stand}
 use Rattle.acting.specs.Orders.{stand-is, standing-sent}
 use Rattle.leading.specs.Room.{stand-room}
 use Rattle.records.specs.Answers.{notSound}
-use Rattle.plans.specs.Plan.{boxesOf}
-use borrow.Author.Tests.{lt-ltb, le-ltb}
-use native.Mathlib.Omega.{arith}
-use Prim.Native.Nat.{ℕ, _<_, _≤_}
+use Prim.Native.Nat.{ℕ}
 use mathlib.Core.Bool.{true}
 use mathlib.Core.List.{List}
 use mathlib.Core.Path.{_≡_, refl, sym, _∙_}
@@ -18,12 +15,9 @@ use Rattle.orders.proofs.judge_stand.Statement.{statement}
 use Rattle.orders.proofs.judge_stand.Tie as tie
 
 there : (c : tie.Then1) (used : ℕ) (s : List ℕ) → exists (c .before .before .args .plan) (here used) s (Stand (c .before .before .args .p)) ≡ true
-unfolding exists
 there c used s =
-    let a = c .before .before .args in
-    let e : c .before .boxes-of .result ≡ boxesOf (a .plan) = c .before .boxes-of .ensures .0 in
-    let l : a .p < c .before .boxes-of .result = c .if1 .taken in
-    lt-ltb (a .p) (boxesOf (a .plan)) (omega (arith, e, l))
+    let a = c .before .before .args in let n = c .before .boxes-of in
+    box-there (a .plan) used s (a .p) (n .result) (n .ensures .0) (c .if1 .taken) .0
 
 boxes-of-requires : tie.Need-boxes-of-requires
 boxes-of-requires c κs = search needs
@@ -35,13 +29,11 @@ refuse-requires : tie.Need-refuse-requires
 refuse-requires c κs = search needs
 
 returns : tie.Need-returns
-unfolding exists
 returns c used s =
-    let a = c .before .before .before in
-    let e : c .before .before .boxes-of .result ≡ boxesOf (a .args .plan) = c .before .before .boxes-of .ensures .0 in
-    let l : c .before .before .boxes-of .result ≤ a .args .p = c .before .if1 .left in
+    let a = c .before .before .before in let n = c .before .before .boxes-of in
+    let h = box-missing (a .args .plan) used s (a .args .p) (n .result) (n .ensures .0) (c .before .if1 .left) in
     rw (c .refuse .ensures)
-    (judges-no _ _ (none-such (a .args .plan) used (a .args .x) s (Stand (a .args .p)) (a .pre .0) (le-ltb (a .args .p) (boxesOf (a .args .plan)) (omega (arith, e, l)))))
+    (judges-no _ _ (none-such (a .args .plan) used (a .args .x) s (Stand (a .args .p)) (a .pre .0) (h .0)))
 
 refuse-requires-2 : tie.Need-refuse-requires-2
 refuse-requires-2 c κs = search needs
