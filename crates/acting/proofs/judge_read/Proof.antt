@@ -1,7 +1,6 @@
 -- `acting::judge_read` meets its contract.
+use Rattle.acting.specs.Owned.{owned-lengths}
 use Rattle.acting.specs.Judging.{kind-fits, judging-unread, judging-taken}
-use Rattle.keeps.specs.Sound.{Lengths}
-use Rattle.looking.specs.Long.{long-map}
 use Rattle.plans.specs.declared.Plan.{Plan}
 use Rattle.records.specs.Bytes.{parse}
 use Rattle.records.specs.Outcome.{ifDone, readAnswer, readRecord, reads, RecordRead, read-is-promised, read-says}
@@ -17,22 +16,6 @@ use mathlib.Core.Path.{_≡_, sym, ap, _∙_}
 use borrow.Author.Needs.{needs}
 use Rattle.acting.proofs.judge_read.Statement.{statement}
 use Rattle.acting.proofs.judge_read.Tie as tie
-
--- owning a box says how long its arrays are
-lengths : (c : tie.Start) → Lengths (c .args .x)
-lengths c =
-    let x = c .args .x in let g = c .good .1 .0 .1 .1 in
-    let t = g .0 .1 .1 .1 .1 .1 .1 .1 in
-    let k = g .1 .0 .1 .1 in
-    record {
-      table = long-map _ _ _ (x .core .table) 64 (t .0 .1 .0 .1);
-      sent = search needs;
-      list = long-map _ _ _ (x .core .list) 64 (t .1 .1 .1 .0 .1 .0 .1);
-      kept-ballots = long-map _ _ _ (x .volatile .«kept_ballots») 256 (k .0 .1 .0 .1);
-      kept-stamps = long-map _ _ _ (x .volatile .«kept_stamps») 256 (k .1 .0 .1 .0 .1);
-      marks = search needs;
-      vote-table = long-map _ _ _ (x .volatile .vote .table) 64 (k .1 .1 .1 .0 .1 .1 .1 .1 .1 .1 .0 .1 .0 .1);
-    }
 
 -- what the reader's promise says of its answer and, if that is done, of its record
 record Took (P : Plan) (s : List ℕ) (o : ReadOut) : Type 0 where
@@ -70,7 +53,7 @@ returns c = λ s w.
 returns-2 : tie.Need-returns-2
 returns-2 c = λ s w.
     let a = c .before .before .before in let t = took (a .args .plan) s _ w (c .before .enum-told .given .1) in
-    judging-taken (a .args .plan) (a .args .x) s (a .pre .0) (c .judge-record .result) (a .args .r) (lengths a) (t .read) (t .parsed) (t .is-valid) (c .judge-record .ensures)
+    judging-taken (a .args .plan) (a .args .x) s (a .pre .0) (c .judge-record .result) (a .args .r) (owned-lengths (a .args .x) _ (a .good .1 .0 .1 .1)) (t .read) (t .parsed) (t .is-valid) (c .judge-record .ensures)
 
 pub judge-read-spec : {M : Type 1} → statement M
 judge-read-spec = tie.close (tie.spec enum-known-read enum-told judge-record-requires returns returns-2)
