@@ -38,14 +38,15 @@ struct Scan {
     at: usize,
 }
 
-// nothing is read
+// nothing is read. The night is made last: a field that is made before the others is kept while they are made, and then copied, and
+// the night is the large one
 pub fn fresh_session() -> Session
     ensures { λ r. ⌜ Begun r ⌝ }
 {
     Session {
-        night: rehearsal::fresh_night(),
-        desk: drawing::empty_desk(),
         line: lines::no_line(),
+        desk: drawing::empty_desk(),
+        night: rehearsal::fresh_night(),
     }
 }
 
