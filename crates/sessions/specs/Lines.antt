@@ -65,10 +65,15 @@ pub byte-ends : (r : Reading World) → byteRead act r lineFeed ≡ lineEnd act 
 unfolding byteRead
 byte-ends r = pick-true _ _ refl
 
-line-acts : (whole : LineState) (r : Reading World) (line : LineState) (desk : Desk) (night : Night) (post : List ℕ) (o : Order) → Holds r line desk night post → o ≡ orderHeld whole
-    → lineEnd act (record { line = whole; state = r .state }) ≡ record { line = noLine; state = saying (r .state .text) (handled desk night post o) }
-unfolding lineEnd act
-line-acts whole r line desk night post o H eo = rw (H .desk-is, H .night-is, H .post-is, eo)
+-- an order is acted on where a reading stands
+pub acts-on : (r : Reading World) (line : LineState) (desk : Desk) (night : Night) (post : List ℕ) (o : Order) → Holds r line desk night post
+    → act (r .state) o ≡ saying (r .state .text) (handled desk night post o)
+unfolding act
+acts-on r line desk night post o H = rw (H .desk-is, H .night-is, H .post-is)
+
+line-acts : (whole : LineState) (w : World) (o : Order) → o ≡ orderHeld whole → lineEnd act (record { line = whole; state = w }) ≡ record { line = noLine; state = act w o }
+unfolding lineEnd
+line-acts whole w o e = rw e
 
 module _ (s : Session) (post₀ chunk : List ℕ) where
   -- a byte that is no LF
@@ -80,22 +85,21 @@ module _ (s : Session) (post₀ chunk : List ℕ) where
       ∙ ap (λ (z : Reading World). record { line = pushed (z .line) (getD chunk i 0); state = z .state }) e
 
   -- the LF that ends a line: its order is acted on
-  pub line-turn : (from end : ℕ) (whole line : LineState) (desk : Desk) (night : Night) (post : List ℕ) (o : Order) → Holds (chunkOf s post₀ (take from chunk)) line desk night post
-      → end < length chunk → getD chunk end 0 ≡ lineFeed → chunkOf s post₀ (take end chunk) ≡ record { line = whole; state = chunkOf s post₀ (take from chunk) .state } → o ≡ orderHeld whole
-      → chunkOf s post₀ (take (end + 1) chunk) ≡ record { line = noLine; state = saying (chunkOf s post₀ (take from chunk) .state .text) (handled desk night post o) }
-  line-turn from end whole line desk night post o H h lf e eo =
+  pub line-turn : (from end : ℕ) (whole : LineState) (o : Order) → end < length chunk → getD chunk end 0 ≡ lineFeed
+      → chunkOf s post₀ (take end chunk) ≡ record { line = whole; state = chunkOf s post₀ (take from chunk) .state } → o ≡ orderHeld whole
+      → chunkOf s post₀ (take (end + 1) chunk) ≡ record { line = noLine; state = act (chunkOf s post₀ (take from chunk) .state) o }
+  line-turn from end whole o h lf e eo =
       sym (over-step (byteRead act) (within s post₀) chunk end h)
       ∙ ap (byteRead act (chunkOf s post₀ (take end chunk))) lf
       ∙ ap (λ (z : Reading World). byteRead act z lineFeed) e
       ∙ byte-ends (record { line = whole; state = chunkOf s post₀ (take from chunk) .state })
-      ∙ line-acts whole (chunkOf s post₀ (take from chunk)) line desk night post o H eo
+      ∙ line-acts whole (chunkOf s post₀ (take from chunk) .state) o eo
 
--- after a line that left a: the reading, and its text
-pub holds-after : (r q : Reading World) (a : After) (l : LineState) → r ≡ record { line = noLine; state = saying (q .state .text) a } → l ≡ noLine
-    → Holds r l (a .desk) (a .night) (a .post)
-holds-after r q a l e f =
+-- after a line that left a: the reading
+pub holds-after : (r q : Reading World) (a : After) (l : LineState) → r ≡ record { line = l; state = saying (q .state .text) a } → Holds r l (a .desk) (a .night) (a .post)
+holds-after r q a l e =
     record {
-      line-is = ap (λ (z : Reading World). z .line) e ∙ sym f;
+      line-is = ap (λ (z : Reading World). z .line) e;
       desk-is = ap (λ (z : Reading World). z .state .desk) e;
       night-is = ap (λ (z : Reading World). z .state .night) e;
       post-is = ap (λ (z : Reading World). z .state .post) e;

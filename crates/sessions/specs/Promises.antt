@@ -28,6 +28,9 @@ pub record Leaves (x : Reading World) (before : List ℕ) (r : Fed) (later after
   pub post : later ≡ x .state .post
   pub text : after ≡ onto (x .state .text) before
 
+pub leaves-as : {x y : Reading World} {before : List ℕ} {r : Fed} {later after : List ℕ} → x ≡ y → Leaves x before r later after → Leaves y before r later after
+leaves-as e L = rw (← e) L
+
 -- `feed_chunk`: the first n bytes of a chunk are read
 abbrev pub ChunkFed : Session → List ℕ → ℕ → List ℕ → List ℕ → Fed → List ℕ → List ℕ → Type 0
 ChunkFed s chunk n post before r later after = Leaves (chunkOf s post (take n chunk)) before r later after

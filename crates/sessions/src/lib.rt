@@ -6,8 +6,10 @@ ghost use Prim.Native.Nat.{ℕ, _*_, _≤_, _<_};
 ghost use lib.ListN.{length, getD, take};
 ghost use Rattle.words.specs.Parts.{lineFeed};
 ghost use Rattle.texts.specs.Texts.{answerMost};
+ghost use Rattle.posting.specs.Index.{Indexed};
 ghost use Rattle.sessions.specs.Session.{chunkOf};
 ghost use Rattle.sessions.specs.Promises.{Begun, Leaves, ChunkFed, LastFed};
+ghost use Rattle.sessions.specs.Asked.{Asks, Finishes};
 use drawing::Desk;
 use lines::LineState;
 use orders::Night;
@@ -36,6 +38,26 @@ pub struct Fed {
 struct Scan {
     line: LineState,
     at: usize,
+}
+
+// what comes in a chunk from a place on: the line that is then coming, and the place behind. Of a line that ended: what it says, the
+// order as the rehearsal knows it, its box, where the record begins that it carries; how far the index goes
+struct Asked {
+    line: LineState,
+    typed: lines::Order,
+    order: orders::Order,
+    next: usize,
+    at: usize,
+    start: usize,
+    count: usize,
+    ended: bool,
+}
+
+// an order is done: how much of the post is used, how many bytes of text it gave, and whether its records fit
+struct Finished {
+    used: usize,
+    text: usize,
+    fits: bool,
 }
 
 // nothing is read. The night is made last: a field that is made before the others is kept while they are made, and then copied, and
@@ -67,15 +89,80 @@ fn read_on(line: LineState, chunk: &[u8], from: usize) -> Scan
     Scan { line: cur, at: n }
 }
 
+// the rest of a line, and what it asks
+fn ask(
+    line: LineState,
+    desk: Desk,
+    used: usize,
+    chunk: &[u8],
+    from: usize,
+    post: &[u8],
+    index: &mut [u16],
+    count: usize,
+) -> Asked
+    requires { ⌜ (from < length (now chunk)) × Indexed (desk .plan) (now post) used (now index) count ⌝ }
+    ensures { λ r. ⌜ Asks line desk used (now (chunk .entry)) from (now (post .entry)) count (now (index .entry)) r (now (index .exit)) ⌝ }
+{
+    let scan = read_on(line, chunk, from);
+    let end = scan.at;
+    let whole = scan.line;
+    let typed = lines::order_held(whole);
+    let order = hearing::order_of(typed);
+    if chunk.len() <= end {
+        return Asked {
+            line: whole,
+            typed: typed,
+            order: order,
+            next: end,
+            at: 0,
+            start: 0,
+            count: count,
+            ended: false,
+        };
+    }
+    let plan = desk.plan;
+    let place = orders::find(plan, desk.fixed, used, order, post, index, count);
+    Asked {
+        line: lines::no_line(),
+        typed: typed,
+        order: order,
+        next: end + 1,
+        at: place.at,
+        start: place.start,
+        count: place.count,
+        ended: true,
+    }
+}
+
+// a box has stepped: its records go behind the last if they fit, and its order is answered
+fn finish(
+    used: usize,
+    more: usize,
+    records: u16,
+    tray: &[u8],
+    post: &mut [u8],
+    t: &mut [u8],
+) -> Finished
+    requires { ⌜ (more ≤ length (now tray)) × (answerMost ≤ length (now t)) ⌝ }
+    ensures { λ r. ⌜ Finishes used more records (now (tray .entry)) (now (post .entry)) (now (t .entry)) r (now (post .exit)) (now (t .exit)) ⌝ }
+{
+    let s = rehearsal::settle(used, more, tray, post);
+    let text = hearing::say_settled(s.fits, records, t);
+    Finished {
+        used: s.used,
+        text: text,
+        fits: s.fits,
+    }
+}
+
 // some bytes of the input, line by line, with room for an answer to each. The boxes stand here as one array, and an order takes one of
 // them; a box that a step left sound is not tested again, and where a record begins is found once
 fn feed_into(s: Session, chunk: &[u8], post: &mut [u8], t: &mut [u8]) -> Fed
     requires { ⌜ answerMost * length (now chunk) ≤ length (now t) ⌝ }
     ensures { λ r. ⌜ Leaves (chunkOf s (now (post .entry)) (now (chunk .entry))) (now (t .entry)) r (now (post .exit)) (now (t .exit)) ⌝ }
 {
-    let night = s.night;
-    let mut boxes = night.boxes;
-    let mut used = night.used;
+    let mut boxes = s.night.boxes;
+    let mut used = s.night.used;
     let mut desk = s.desk;
     let mut line = s.line;
     let mut known = [false; orders::MOST_BOXES];
@@ -85,55 +172,33 @@ fn feed_into(s: Session, chunk: &[u8], post: &mut [u8], t: &mut [u8]) -> Fed
     let mut text = 0;
     let mut from = 0;
     while from < chunk.len() {
-        let scan = read_on(line, chunk, from);
-        let end = scan.at;
-        let whole = scan.line;
-        if chunk.len() <= end {
-            return Fed {
-                session: Session {
-                    night: Night {
-                        boxes: boxes,
-                        used: used,
-                    },
-                    desk: desk,
-                    line: whole,
-                },
-                used: text,
-            };
-        }
-        let typed = lines::order_held(whole);
-        let order = hearing::order_of(typed);
-        let plan = desk.plan;
-        let place = orders::find(plan, desk.fixed, used, order, post, &mut index, count);
-        let at = place.at;
-        let x = boxes[at];
-        let sure = known[at];
-        let h = hearing::hear(
-            desk,
-            sure,
-            used,
-            x,
-            typed,
-            place.start,
-            post,
-            &mut t[text..],
-        );
-        let next = h.desk;
-        desk = next;
-        known[at] = h.known;
-        count = place.count;
-        text += h.text;
-        line = lines::no_line();
-        from = end + 1;
-        if h.goes {
-            let r = h.rec;
-            let out = rehearsal::step(plan, x, order, r, &mut tray);
-            let v = rehearsal::settle(used, out.used, &tray, post);
-            used = v.used;
-            text += hearing::say_settled(v.fits, out.records, &mut t[text..]);
-            if v.fits {
-                let y = out.state;
-                boxes[at] = y;
+        let a = ask(line, desk, used, chunk, from, post, &mut index, count);
+        let rest = a.line;
+        line = rest;
+        from = a.next;
+        count = a.count;
+        if a.ended {
+            let at = a.at;
+            let x = boxes[at];
+            let sure = known[at];
+            let typed = a.typed;
+            let h = hearing::hear(desk, sure, used, x, typed, a.start, post, &mut t[text..]);
+            let plan = desk.plan;
+            let next = h.desk;
+            desk = next;
+            known[at] = h.known;
+            text += h.text;
+            if h.goes {
+                let r = h.rec;
+                let order = a.order;
+                let out = rehearsal::step(plan, x, order, r, &mut tray);
+                let f = finish(used, out.used, out.records, &tray, post, &mut t[text..]);
+                used = f.used;
+                text += f.text;
+                if f.fits {
+                    let y = out.state;
+                    boxes[at] = y;
+                }
             }
         }
     }

@@ -1,8 +1,7 @@
 -- `sessions::feed_chunk` meets its contract.
 use Rattle.sessions.specs.SessionLaws.{take-within}
-use Rattle.sessions.specs.Session.{World, fedOf, chunkOf}
-use Rattle.lines.specs.Feed.{Reading}
-use Rattle.laws.specs.Tray.{onto}
+use Rattle.sessions.specs.Session.{chunkOf}
+use Rattle.sessions.specs.Promises.{leaves-as}
 use Prim.Native.Nat.{ℕ, _-_}
 use lib.ListN.{length, take}
 use native.Mathlib.Omega.{arith}
@@ -38,8 +37,7 @@ returns c =
     let m : length l ≡ 2048 = search needs in
     let z : k .result - 0 ≡ k .result = omega arith in
     let e : take (k .result - 0) l ≡ take (a .n) l = ap (λ (n : ℕ). take n l) (z ∙ k .ensures .0) ∙ take-within (a .n) 2048 l (omega arith) in
-    let v : chunkOf (a .s) (a .post .now) (take (k .result - 0) l) ≡ chunkOf (a .s) (a .post .now) (take (a .n) l) = ap (chunkOf (a .s) (a .post .now)) e in
-    record { fed = q .fed ∙ ap fedOf v; post = q .post ∙ ap (λ (r : Reading World). r .state .post) v; text = q .text ∙ ap (λ (r : Reading World). onto (r .state .text) (a .t .now)) v }
+    leaves-as (ap (chunkOf (a .s) (a .post .now)) e) q
 
 pub feed-chunk-spec : {M : Type 1} → statement M
 feed-chunk-spec =

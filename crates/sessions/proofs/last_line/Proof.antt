@@ -1,13 +1,13 @@
 -- `sessions::last_line` meets its contract.
-use Rattle.sessions.specs.Session.{World, fedOf, chunkOf, lastOf, within}
+use Rattle.sessions.specs.Session.{chunkOf, lastOf, within}
+use Rattle.sessions.specs.Promises.{leaves-as}
 use Rattle.sessions.specs.Lines.{byte-ends}
-use Rattle.lines.specs.Feed.{Reading}
 use Rattle.words.specs.Parts.{lineFeed}
-use Rattle.laws.specs.Tray.{onto, onto-nil}
+use Rattle.laws.specs.Tray.{onto-nil}
 use Rattle.laws.specs.Choice.{pick-true, pick-false}
 use borrow.Author.Tests.{eq-eqb, ne-eqb}
 use mathlib.Core.List.{[], _∷_}
-use mathlib.Core.Path.{_≡_, sym, ap, _∙_}
+use mathlib.Core.Path.{_≡_, refl, sym, _∙_}
 use borrow.Author.Needs.{needs}
 use Rattle.sessions.proofs.last_line.Statement.{statement}
 use Rattle.sessions.proofs.last_line.Tie as tie
@@ -17,7 +17,7 @@ unfolding lastOf
 returns c =
     let a = c .before .before .before .before .args in
     let v : within (a .s) (a .post .now) ≡ lastOf (a .s) (a .post .now) = sym (pick-true _ _ (eq-eqb _ _ (c .if1 .taken))) in
-    record { fed = ap fedOf v; post = ap (λ (r : Reading World). r .state .post) v; text = sym (onto-nil (a .t .now)) ∙ ap (λ (r : Reading World). onto (r .state .text) (a .t .now)) v }
+    leaves-as v (record { fed = refl; post = refl; text = sym (onto-nil (a .t .now)) })
 
 slice-aggregate-feed-into : tie.Need-slice-aggregate-feed-into
 slice-aggregate-feed-into c = search needs
@@ -34,7 +34,7 @@ returns-2 c =
     let a = c .before .before .before .before .before .before .before .before .before .before .args in let q = c .before .before .feed-into .ensures in
     let v : chunkOf (a .s) (a .post .now) (lineFeed ∷ []) ≡ lastOf (a .s) (a .post .now) =
     byte-ends (within (a .s) (a .post .now)) ∙ sym (pick-false _ _ (ne-eqb _ _ (c .before .before .before .before .before .before .if1 .left))) in
-    record { fed = q .fed ∙ ap fedOf v; post = q .post ∙ ap (λ (r : Reading World). r .state .post) v; text = q .text ∙ ap (λ (r : Reading World). onto (r .state .text) (a .t .now)) v }
+    leaves-as v q
 
 pub last-line-spec : {M : Type 1} → statement M
 last-line-spec = tie.close (tie.spec returns slice-aggregate-feed-into feed-into-requires same-length returns-2)
