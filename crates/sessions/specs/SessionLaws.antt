@@ -12,8 +12,7 @@ use Rattle.laws.specs.Choice.{pick, pick-when}
 use Rattle.words.specs.Parts.{lineFeed}
 use Rattle.lines.specs.Held.{pushed}
 use Rattle.lines.specs.Feed.{Reading, lineEnd, byteRead, allRead, inputEnd}
-use Rattle.sessions.specs.Session.{World, saying, act, within, sessionOf, byteOf, lastOf}
-use Rattle.sessions.specs.declared.Session.{Session}
+use Rattle.sessions.specs.Session.{World, saying, act, within, sessionOf, lastOf}
 
 -- a reading behind some text
 abbrev pub behindText : List ℕ → Reading World → Reading World
@@ -43,10 +42,6 @@ byte-says r b = go (eqb b lineFeed)
     go : (t : Bool) → pick t (lineEnd act r) (held r) ≡ behindText (r .state .text) (pick t (lineEnd act (quiet r)) (held (quiet r)))
     go true = line-says r
     go false = behind-none (held r)
-
--- one byte more, as the code reads it
-pub chunk-step : (r : Reading World) (s : Session) (post : List ℕ) (b : ℕ) → s ≡ sessionOf r → post ≡ r .state .post → behindText (r .state .text) (byteOf s post b) ≡ byteRead act r b
-chunk-step r s post b p q = rw (p, q) (sym (byte-says r b))
 
 pub all-says : (l : List ℕ) (r : Reading World) → allRead act r l ≡ behindText (r .state .text) (allRead act (quiet r) l)
 all-says [] r = behind-none r
