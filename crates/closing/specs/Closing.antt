@@ -3,9 +3,10 @@ use Prim.Native.Nat.{ℕ, _+_, _*_}
 use mathlib.Core.List.{List, [], _++_}
 use Rattle.laws.specs.Choice.{pick}
 use Rattle.laws.specs.Tray.{allFor}
+use Rattle.house.specs.Limits.{mostJobs}
 use Rattle.plans.specs.Plan.{boxesOf, planSound}
 use Rattle.plans.specs.declared.Plan.{Plan}
-use Rattle.orders.specs.Night.{boxIn}
+use Rattle.orders.specs.Night.{mostBoxes, boxIn}
 use Rattle.orders.specs.declared.Night.{Night}
 use Rattle.report.specs.Report.{boxText, jobText, boxMost, jobMost}
 use Rattle.endings.specs.Endings.{jobsOf, shownOf, firstBelow, finished}
@@ -32,4 +33,4 @@ nightReport P n = pick (planSound P) (soundReport P n) []
 
 -- twelve lines of boxes and 64 of jobs
 abbrev pub reportMost : ℕ
-reportMost = 12 * boxMost + 64 * jobMost
+reportMost = mostBoxes * boxMost + mostJobs * jobMost

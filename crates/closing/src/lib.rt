@@ -5,7 +5,9 @@ ghost use mathlib.Core.Bool.{true};
 ghost use Prim.Native.Nat.{_*_, _≤_, _<_};
 ghost use lib.ListN.{length};
 ghost use Rattle.laws.specs.Tray.{onto, allFor};
+ghost use Rattle.house.specs.Limits.{mostJobs};
 ghost use Rattle.plans.specs.Plan.{boxesOf, planSound};
+ghost use Rattle.orders.specs.Night.{mostBoxes};
 ghost use Rattle.report.specs.Report.{boxText, boxMost, jobMost};
 ghost use Rattle.endings.specs.Endings.{jobsOf, shownOf};
 ghost use Rattle.endings.specs.Ends.{AllEnded};
@@ -29,7 +31,7 @@ struct Boxed {
 
 // the line of a box
 fn put_box(p: BoxNo, x: BoxState, t: &mut [u8]) -> usize
-    requires { ⌜ (p .0 < 12) × (boxMost ≤ length (now t)) ⌝ }
+    requires { ⌜ (p .0 < mostBoxes) × (boxMost ≤ length (now t)) ⌝ }
     ensures { λ r. ⌜ (r ≤ boxMost) × (r ≡ length (boxText (p .0) (jobsOf x) (shownOf x))) × (now (t .exit) ≡ onto (boxText (p .0) (jobsOf x) (shownOf x)) (now (t .entry))) ⌝ }
 {
     let list = endings::jobs_of(x);
@@ -50,8 +52,8 @@ fn put_job(plan: Plan, job: u8, end: JobEnd, t: &mut [u8]) -> usize
 
 // the lines of the first n boxes, and what these boxes say of each job
 fn put_boxes(night: Night, n: u8, t: &mut [u8]) -> Boxed
-    requires { ⌜ (n ≤ 12) × (12 * boxMost ≤ length (now t)) ⌝ }
-    ensures { λ r. ⌜ (r .used ≤ 12 * boxMost) × (r .used ≡ length (allFor (boxReport night) n)) × (now (t .exit) ≡ onto (allFor (boxReport night) n) (now (t .entry))) × AllEnded night n (r .ends) ⌝ }
+    requires { ⌜ (n ≤ mostBoxes) × (mostBoxes * boxMost ≤ length (now t)) ⌝ }
+    ensures { λ r. ⌜ (r .used ≤ mostBoxes * boxMost) × (r .used ≡ length (allFor (boxReport night) n)) × (now (t .exit) ≡ onto (allFor (boxReport night) n) (now (t .entry))) × AllEnded night n (r .ends) ⌝ }
 {
     let boxes = night.boxes;
     let mut ends = endings::no_ends();
@@ -72,8 +74,8 @@ fn put_boxes(night: Night, n: u8, t: &mut [u8]) -> Boxed
 
 // the lines of the first n jobs, from what the boxes say of each
 fn put_jobs(plan: Plan, ends: [JobEnd; 64], n: u8, t: &mut [u8]) -> usize
-    requires { ⌜ (planSound plan ≡ true) × (n ≤ 64) × (64 * jobMost ≤ length (now t)) ⌝ }
-    ensures { λ r. ⌜ (r ≤ 64 * jobMost) × ((night : Night) → AllEnded night (boxesOf plan) ends → (r ≡ length (allFor (jobReport plan night) n)) × (now (t .exit) ≡ onto (allFor (jobReport plan night) n) (now (t .entry)))) ⌝ }
+    requires { ⌜ (planSound plan ≡ true) × (n ≤ mostJobs) × (mostJobs * jobMost ≤ length (now t)) ⌝ }
+    ensures { λ r. ⌜ (r ≤ mostJobs * jobMost) × ((night : Night) → AllEnded night (boxesOf plan) ends → (r ≡ length (allFor (jobReport plan night) n)) × (now (t .exit) ≡ onto (allFor (jobReport plan night) n) (now (t .entry)))) ⌝ }
 {
     let mut used = 0;
     for j in 0..n {

@@ -3,6 +3,7 @@
 ghost use mathlib.Core.Path.{_≡_};
 ghost use Prim.Native.Nat.{ℕ, _+_, _*_, _≤_, _<_};
 ghost use Rattle.plans.specs.Plan.{sizeOf};
+ghost use Rattle.orders.specs.Night.{mostBoxes};
 ghost use Rattle.endings.specs.Endings.{jobsOf, shownOf, firstOf, listedIn, doneIn, finished};
 ghost use Rattle.endings.specs.Holders.{Holders, withHolder};
 ghost use Rattle.endings.specs.Ends.{endWith, noEnds, OneMore};
@@ -124,7 +125,7 @@ pub fn with_box(ends: [JobEnd; 64], p: BoxNo, x: BoxState) -> [JobEnd; 64]
 
 // one of `size` boxes from `low` on holds the job
 fn listed_in(holders: u32, low: BoxNo, size: u8) -> bool
-    requires { ⌜ low .0 + size ≤ 12 ⌝ }
+    requires { ⌜ low .0 + size ≤ mostBoxes ⌝ }
     ensures { λ r. ⌜ ((night : Night) (j : ℕ) → Holders night j (low .0 + size) holders → r ≡ listedIn night j (low .0) size) ⌝ }
 {
     let mut found = false;

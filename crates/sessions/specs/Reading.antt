@@ -22,7 +22,7 @@ use Rattle.lines.specs.Feed.{Reading}
 use Rattle.lines.specs.declared.LineState.{LineState}
 use Rattle.texts.specs.Texts.{answerMost}
 use Rattle.posting.specs.Posting.{mostPlace}
-use Rattle.orders.specs.Night.{boxIn}
+use Rattle.orders.specs.Night.{mostBoxes, boxIn}
 use Rattle.orders.specs.Alone.{Stands, Found, Starts, box-in, found-stands}
 use Rattle.orders.specs.Steps.{stepOf, Can}
 use Rattle.rehearsal.specs.Settled.{wrote, turned-does, turned-full, settles-front, settles-more, after-state}
@@ -56,8 +56,8 @@ pub record Reads (s : Session) (post₀ chunk t₀ : List ℕ) (from : ℕ) (pos
   pub most : text ≤ answerMost * from
   pub t-long : length t ≡ length t₀
   pub post-long : length post ≡ length post₀
-  pub boxes-long : length boxes ≡ 12
-  pub known-long : length known ≡ 12
+  pub boxes-long : length boxes ≡ mostBoxes
+  pub known-long : length known ≡ mostBoxes
   pub tray-long : length tray ≡ leastTray
   pub index-long : length index ≡ indexRoom
   pub holds : Holds (chunkOf s post₀ (take from chunk)) line desk (record { boxes = boxes; used = used }) post
@@ -132,7 +132,7 @@ module _ {s : Session} {post₀ chunk t₀ : List ℕ} {from : ℕ} {post t : Li
     F : Found (desk .plan) (desk .fixed) used asked post count place later
     F = A .whole q .0
 
-    pub at-low : a .at < 12
+    pub at-low : a .at < mostBoxes
     at-low = F .at-low
 
     box-is : (d : BoxState) → getD boxes (a .at) d ≡ boxIn night (a .at)

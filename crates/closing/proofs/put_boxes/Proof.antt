@@ -3,7 +3,7 @@ use Rattle.closing.specs.Closing.{boxReport}
 use Rattle.endings.specs.Endings.{jobsOf, shownOf}
 use Rattle.endings.specs.Ends.{AllEnded, none-ended, of-boxes}
 use Rattle.endings.specs.Laws.{any-default, withBoxes}
-use Rattle.orders.specs.Night.{boxIn}
+use Rattle.orders.specs.Night.{mostBoxes, boxIn}
 use Rattle.boxes.specs.declared.BoxState.{BoxState}
 use Rattle.report.specs.Report.{boxText, boxMost}
 use Rattle.laws.specs.Tray.{onto, onto-nil, then, allFor, for-step}
@@ -79,7 +79,7 @@ loop-again c =
     let l = c .before .before .before .before .before .before .before .loop in
     let q = c .before .before .before .put-box in
     let N = withBoxes (a .night .boxes) in
-    let long : length (a .night .boxes) ≡ 12 = long-map _ _ _ (a .night .boxes) 12 (b .good .0 .1 .1 .0 .1 .0 .1) in
+    let long : length (a .night .boxes) ≡ mostBoxes = long-map _ _ _ (a .night .boxes) mostBoxes (b .good .0 .1 .1 .0 .1 .0 .1) in
     let low : l .p < length (a .night .boxes) = rw long (omega (arith, b .pre .0)) in
     let same = any-default (a .night .boxes) (l .p) _ _ low in
     let v = ap (λ (x : BoxState). boxText (l .p) (jobsOf x) (shownOf x)) same in

@@ -10,6 +10,7 @@ use lib.ListN.{length}
 use native.Mathlib.Omega.{arith}
 use mathlib.Core.Path.{refl, sym, _∙_}
 use borrow.Author.Needs.{needs}
+use Rattle.orders.specs.Night.{mostBoxes}
 use Rattle.sessions.proofs.feed_into.Statement.{statement}
 use Rattle.sessions.proofs.feed_into.Tie as tie
 
@@ -51,7 +52,7 @@ short c =
     omega (arith, z, c .loop .inv .t-long)
 
 -- the box is one of the twelve
-low : (e : tie.Then1 Inv-loop μ-loop) → ask-of e .ask .result .at < 12
+low : (e : tie.Then1 Inv-loop μ-loop) → ask-of e .ask .result .at < mostBoxes
 low e = at-low (loop-of (ask-of e) .loop .inv) (ask-of e .ask .ensures) (e .if1 .taken)
 
 loop-holds : tie.Need-loop-holds Inv-loop μ-loop
@@ -64,14 +65,14 @@ loop-holds c =
       most = omega arith;
       t-long = refl;
       post-long = refl;
-      boxes-long = long-map _ _ _ (a .s .night .boxes) 12 (b .good .0 .1 .1 .0 .1 .1 .0 .1 .0 .1);
+      boxes-long = long-map _ _ _ (a .s .night .boxes) mostBoxes (b .good .0 .1 .1 .0 .1 .1 .0 .1 .0 .1);
       known-long = refl;
       tray-long = refl;
       index-long = refl;
       holds = record { line-is = refl; desk-is = refl; night-is = refl; post-is = refl };
       said = refl;
       printed = sym (onto-nil (a .t .now));
-      sure = record { indexed = indexed-none (a .s .desk .plan) (a .post .now) (a .s .night .used) _ (omega arith) refl; loose = λ h. refl; box = λ i h. never h (none-known 12 i) };
+      sure = record { indexed = indexed-none (a .s .desk .plan) (a .post .now) (a .s .night .used) _ (omega arith) refl; loose = λ h. refl; box = λ i h. never h (none-known mostBoxes i) };
     }
 
 slice-aggregate-ask : tie.Need-slice-aggregate-ask Inv-loop μ-loop
