@@ -12,7 +12,8 @@ use Rattle.laws.specs.Choice.{pick, never}
 use Rattle.laws.specs.Tray.{onto, onto-front}
 use Rattle.lines.specs.Feed.{Reading, allRead}
 use Rattle.sessions.specs.declared.Session.{Session}
-use Rattle.sessions.specs.Session.{World, act, within, sessionOf, chunkOf}
+use Rattle.answering.specs.World.{World, act}
+use Rattle.sessions.specs.Session.{within, sessionOf, chunkOf}
 use Rattle.sessions.specs.SessionLaws.{behindText, all-says}
 use Rattle.printing.specs.declared.Next.{Next}
 use Rattle.printing.specs.declared.Next.the-variants.{More, End, ReadFailed, WriteFailed}

@@ -9,7 +9,8 @@ use Rattle.house.specs.Limits.{mostPost}
 use Rattle.lines.specs.Orders.{ordersOf}
 use Rattle.lines.specs.Feed.{joined}
 use Rattle.sessions.specs.declared.Session.{Session}
-use Rattle.sessions.specs.Session.{World, act, sessionOf, chunkOf, lastOf, freshSession}
+use Rattle.answering.specs.World.{World, act}
+use Rattle.sessions.specs.Session.{sessionOf, chunkOf, lastOf, freshSession}
 use Rattle.sessions.specs.Whole.{ended, firstWorld, whole}
 use Rattle.closing.specs.Closing.{nightReport}
 

@@ -11,7 +11,8 @@ use Rattle.io.specs.Counts.{clamped}
 use Rattle.laws.specs.Choice.{pick}
 use Rattle.lines.specs.Feed.{Reading, allRead, inputEnd, joined, orders-chunks}
 use Rattle.sessions.specs.declared.Session.{Session}
-use Rattle.sessions.specs.Session.{World, act, within, sessionOf, chunkOf, lastOf, freshSession}
+use Rattle.answering.specs.World.{World, act}
+use Rattle.sessions.specs.Session.{within, sessionOf, chunkOf, lastOf, freshSession}
 use Rattle.sessions.specs.SessionLaws.{last-says}
 use Rattle.sessions.specs.Whole.{firstWorld}
 use Rattle.closing.specs.Closing.{nightReport}

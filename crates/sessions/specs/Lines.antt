@@ -1,5 +1,5 @@
 -- A chunk, line by line: where a reading stands, and what is known of the boxes and the post while a chunk is read.
-use Prim.Native.Nat.{ℕ, zero, suc, _+_, _≤_, _<_}
+use Prim.Native.Nat.{ℕ, zero, suc, _≤_, _<_}
 use mathlib.Core.Bool.{Bool, true, false}
 use mathlib.Core.List.{List}
 use mathlib.Core.Logic.{_⊎_, inl, inr, ⊎-elim, _≢_}
@@ -8,12 +8,9 @@ use lib.Dec.{eqb}
 use lib.ListN.{length, replicate, getD, set, take}
 use lib.Seq.{getD-set-same, getD-set-other}
 use borrow.Author.Tests.{eqb-true, eqb-false}
-use Rattle.laws.specs.Choice.{pick-true, pick-false, never, look}
-use Rattle.laws.specs.Fold.{over-step}
+use Rattle.laws.specs.Choice.{never, look}
 use Rattle.house.specs.Pairs.{boxNo}
-use Rattle.words.specs.Parts.{lineFeed}
-use Rattle.lines.specs.Held.{noLine, pushed, orderHeld}
-use Rattle.lines.specs.Feed.{Reading, lineEnd, byteRead}
+use Rattle.lines.specs.Feed.{Reading}
 use Rattle.lines.specs.declared.LineState.{LineState}
 use Rattle.lines.specs.declared.Order.{Order}
 use Rattle.boxes.specs.Box.{fresh}
@@ -23,13 +20,12 @@ use Rattle.posting.specs.Index.{Indexed, indexed-first, indexed-grown}
 use Rattle.orders.specs.Night.{boxIn}
 use Rattle.orders.specs.Alone.{Found}
 use Rattle.orders.specs.declared.Night.{Night}
+use Rattle.orders.specs.declared.Order as ask
 use Rattle.orders.specs.declared.Place.{Place}
 use Rattle.drawing.specs.declared.Desk.{Desk}
 use Rattle.hearing.specs.Heard.{After, handled}
-use Rattle.hearing.specs.Hears.{askOf, Hears}
-use Rattle.hearing.specs.declared.Heard.{Heard}
-use Rattle.sessions.specs.Session.{World, saying, act, within, fedOf, chunkOf}
-use Rattle.sessions.specs.declared.Session.{Session}
+use Rattle.answering.specs.World.{World, saying, act}
+use Rattle.sessions.specs.Session.{fedOf}
 use Rattle.sessions.specs.declared.Fed.{Fed}
 
 -- where a reading stands: the line that is coming, the desk, the night and the post
@@ -54,46 +50,11 @@ holds-on r q whole line desk night post e H =
       post-is = ap (λ (z : Reading World). z .state .post) e ∙ H .post-is;
     }
 
-pub line-as : (r : Reading World) (l : LineState) → r .line ≡ l → r ≡ record { line = l; state = r .state }
-line-as r l e = ap (λ (z : LineState). record { line = z; state = r .state }) e
-
-byte-held : (r : Reading World) (b : ℕ) → eqb b lineFeed ≡ false → byteRead act r b ≡ record { line = pushed (r .line) b; state = r .state }
-unfolding byteRead
-byte-held r b e = pick-false _ _ e
-
-pub byte-ends : (r : Reading World) → byteRead act r lineFeed ≡ lineEnd act r
-unfolding byteRead
-byte-ends r = pick-true _ _ refl
-
 -- an order is acted on where a reading stands
 pub acts-on : (r : Reading World) (line : LineState) (desk : Desk) (night : Night) (post : List ℕ) (o : Order) → Holds r line desk night post
     → act (r .state) o ≡ saying (r .state .text) (handled desk night post o)
 unfolding act
 acts-on r line desk night post o H = rw (H .desk-is, H .night-is, H .post-is)
-
-line-acts : (whole : LineState) (w : World) (o : Order) → o ≡ orderHeld whole → lineEnd act (record { line = whole; state = w }) ≡ record { line = noLine; state = act w o }
-unfolding lineEnd
-line-acts whole w o e = rw e
-
-module _ (s : Session) (post₀ chunk : List ℕ) where
-  -- a byte that is no LF
-  pub held-on : (i : ℕ) (l : LineState) (w : World) → i < length chunk → eqb (getD chunk i 0) lineFeed ≡ false → chunkOf s post₀ (take i chunk) ≡ record { line = l; state = w }
-      → chunkOf s post₀ (take (i + 1) chunk) ≡ record { line = pushed l (getD chunk i 0); state = w }
-  held-on i l w h nf e =
-      sym (over-step (byteRead act) (within s post₀) chunk i h)
-      ∙ byte-held (chunkOf s post₀ (take i chunk)) (getD chunk i 0) nf
-      ∙ ap (λ (z : Reading World). record { line = pushed (z .line) (getD chunk i 0); state = z .state }) e
-
-  -- the LF that ends a line: its order is acted on
-  pub line-turn : (from end : ℕ) (whole : LineState) (o : Order) → end < length chunk → getD chunk end 0 ≡ lineFeed
-      → chunkOf s post₀ (take end chunk) ≡ record { line = whole; state = chunkOf s post₀ (take from chunk) .state } → o ≡ orderHeld whole
-      → chunkOf s post₀ (take (end + 1) chunk) ≡ record { line = noLine; state = act (chunkOf s post₀ (take from chunk) .state) o }
-  line-turn from end whole o h lf e eo =
-      sym (over-step (byteRead act) (within s post₀) chunk end h)
-      ∙ ap (byteRead act (chunkOf s post₀ (take end chunk))) lf
-      ∙ ap (λ (z : Reading World). byteRead act z lineFeed) e
-      ∙ byte-ends (record { line = whole; state = chunkOf s post₀ (take from chunk) .state })
-      ∙ line-acts whole (chunkOf s post₀ (take from chunk) .state) o eo
 
 -- after a line that left a: the reading
 pub holds-after : (r q : Reading World) (a : After) (l : LineState) → r ≡ record { line = l; state = saying (q .state .text) a } → Holds r l (a .desk) (a .night) (a .post)
@@ -114,37 +75,42 @@ pub record Sure (desk : Desk) (boxes : List BoxState) (used : ℕ) (post : List 
 same-or-not : (i j : ℕ) → (i ≡ j) ⊎ (i ≢ j)
 same-or-not i j = ⊎-elim (λ t. inl (eqb-true i j t)) (λ t. inr (eqb-false i j t)) (look (eqb i j))
 
--- a line has been heard
-pub sure-heard : {desk : Desk} {boxes : List BoxState} {used : ℕ} {post : List ℕ} {known : List Bool} {index later : List ℕ} {count : ℕ} {o : Order} (r : Place) (h : Heard) {x : BoxState}
-    {before after : List ℕ} → r .at < length known → x ≡ boxIn (record { boxes = boxes; used = used }) (r .at)
-    → Found (desk .plan) (desk .fixed) used (askOf o) post count r later → Hears desk used x post o h before after → Sure desk boxes used post known index count
-    → Sure (h .desk) boxes used post (set known (r .at) (h .known)) later (r .count)
-sure-heard {desk} {boxes} {used} {post} {known} {index} {later} {count} {o} r h {x} l ex F H S =
+-- a line has been heard: d is the desk after it, k says whether its box is known to be sound
+pub sure-heard : {desk : Desk} {boxes : List BoxState} {used : ℕ} {post : List ℕ} {known : List Bool} {index later : List ℕ} {count : ℕ} {o : ask.Order} (r : Place) (d : Desk) (k : Bool) {x : BoxState}
+    → r .at < length known → x ≡ boxIn (record { boxes = boxes; used = used }) (r .at) → Found (desk .plan) (desk .fixed) used o post count r later
+    → (k ≡ true → (d .fixed ≡ true) × (sound (d .plan) x ≡ true)) → (desk .fixed ≡ true → d ≡ desk) → Sure desk boxes used post known index count
+    → Sure d boxes used post (set known (r .at) k) later (r .count)
+sure-heard {desk} {boxes} {used} {post} {known} {index} {later} {count} {o} r d k {x} l ex F sure stays S =
     record {
       indexed = ⊎-elim plan-stays plan-new (look (desk .fixed));
-      loose = λ q. ⊎-elim (λ t. never (ap (λ (d : Desk). d .fixed) (H .fixed t) ∙ t) q) (λ t. F .stays t ∙ S .loose t) (look (desk .fixed));
+      loose = λ q. ⊎-elim (λ t. never (ap (λ (z : Desk). z .fixed) (stays t) ∙ t) q) (λ t. F .stays t ∙ S .loose t) (look (desk .fixed));
       box = λ i q. ⊎-elim (λ e. asked i e q) (λ e. other i e q) (same-or-not i (r .at));
     }
   where
-    plan-stays : desk .fixed ≡ true → Indexed (h .desk .plan) post used later (r .count)
-    plan-stays t = rw (H .fixed t) (F .indexed)
+    plan-stays : desk .fixed ≡ true → Indexed (d .plan) post used later (r .count)
+    plan-stays t = rw (stays t) (F .indexed)
 
-    plan-new : desk .fixed ≡ false → Indexed (h .desk .plan) post used later (r .count)
-    plan-new t = indexed-first (desk .plan) (h .desk .plan) post post used used later (r .count) (F .stays t ∙ S .loose t) (F .indexed)
+    plan-new : desk .fixed ≡ false → Indexed (d .plan) post used later (r .count)
+    plan-new t = indexed-first (desk .plan) (d .plan) post post used used later (r .count) (F .stays t ∙ S .loose t) (F .indexed)
 
-    asked : (i : ℕ) → i ≡ r .at → getD (set known (r .at) (h .known)) i false ≡ true
-        → (h .desk .fixed ≡ true) × (sound (h .desk .plan) (boxIn (record { boxes = boxes; used = used }) i) ≡ true)
+    asked : (i : ℕ) → i ≡ r .at → getD (set known (r .at) k) i false ≡ true → (d .fixed ≡ true) × (sound (d .plan) (boxIn (record { boxes = boxes; used = used }) i) ≡ true)
     asked i e q =
-        let k : h .known ≡ true = sym (getD-set-same known (r .at) (h .known) false l) ∙ ap (λ (j : ℕ). getD (set known (r .at) (h .known)) j false) (sym e) ∙ q in
-        let f = H .known k in
+        let t : k ≡ true = sym (getD-set-same known (r .at) k false l) ∙ ap (λ (j : ℕ). getD (set known (r .at) k) j false) (sym e) ∙ q in
+        let f = sure t in
         (f .0, rw (e, ← ex) (f .1))
 
-    other : (i : ℕ) → i ≢ r .at → getD (set known (r .at) (h .known)) i false ≡ true
-        → (h .desk .fixed ≡ true) × (sound (h .desk .plan) (boxIn (record { boxes = boxes; used = used }) i) ≡ true)
+    other : (i : ℕ) → i ≢ r .at → getD (set known (r .at) k) i false ≡ true → (d .fixed ≡ true) × (sound (d .plan) (boxIn (record { boxes = boxes; used = used }) i) ≡ true)
     other i e q =
-        let k : getD known i false ≡ true = sym (getD-set-other known (r .at) i (h .known) false e) ∙ q in
-        let f = S .box i k in
-        rw (H .fixed (f .0)) f
+        let t : getD known i false ≡ true = sym (getD-set-other known (r .at) i k false e) ∙ q in
+        let f = S .box i t in
+        rw (stays (f .0)) f
+
+-- bytes came behind what is used
+pub sure-grown : {desk : Desk} {boxes : List BoxState} {used : ℕ} {post : List ℕ} {known : List Bool} {index : List ℕ} {count : ℕ} (u : ℕ) (after : List ℕ)
+    → used ≤ u → take used after ≡ take used post → Sure desk boxes used post known index count → Sure desk boxes u after known index count
+unfolding boxIn
+sure-grown {desk} {boxes} {used} {post} {known} {index} {count} u after m g S =
+    record { indexed = indexed-grown (desk .plan) post after used u m g index count (S .indexed); loose = S .loose; box = S .box }
 
 -- a box has stepped, and bytes came behind what is used
 pub sure-stepped : {desk : Desk} {boxes : List BoxState} {used : ℕ} {post : List ℕ} {known : List Bool} {index : List ℕ} {count : ℕ} (at : ℕ) (y : BoxState) (u : ℕ) (after : List ℕ)

@@ -12,7 +12,8 @@ use Rattle.lines.specs.Held.{noLine}
 use Rattle.lines.specs.Feed.{Reading}
 use Rattle.drawing.specs.declared.Desk.{Desk}
 use Rattle.drawing.specs.Desk.{emptyDesk}
-use Rattle.sessions.specs.Session.{World, fedOf, chunkOf, lastOf}
+use Rattle.answering.specs.World.{World}
+use Rattle.sessions.specs.Session.{fedOf, chunkOf, lastOf}
 use Rattle.sessions.specs.declared.Session.{Session}
 use Rattle.sessions.specs.declared.Fed.{Fed}
 

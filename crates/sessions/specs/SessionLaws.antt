@@ -12,7 +12,8 @@ use Rattle.laws.specs.Choice.{pick, pick-when}
 use Rattle.words.specs.Parts.{lineFeed}
 use Rattle.lines.specs.Held.{pushed}
 use Rattle.lines.specs.Feed.{Reading, lineEnd, byteRead, allRead, inputEnd}
-use Rattle.sessions.specs.Session.{World, saying, act, within, sessionOf, lastOf}
+use Rattle.answering.specs.World.{World, saying, act}
+use Rattle.sessions.specs.Session.{within, sessionOf, lastOf}
 
 -- a reading behind some text
 abbrev pub behindText : List ℕ → Reading World → Reading World

@@ -11,7 +11,7 @@ use Rattle.lines.specs.declared.Order as typed
 use Rattle.drawing.specs.Desk.{emptyDesk, districtsHere, jobHere}
 use Rattle.drawing.specs.declared.Desk.{Desk}
 use Rattle.hearing.specs.Heard.{handled, obeyed}
-use Rattle.sessions.specs.Session.{World, act}
+use Rattle.answering.specs.World.{World, act}
 use Rattle.shown.specs.Words.{deskAfter, deskOf, planOf, asked, played}
 
 -- ---- the desk goes by the lines alone

@@ -9,7 +9,7 @@ use Rattle.orders.specs.declared.Order.{Order}
 use Rattle.lines.specs.declared.Order as typed
 use Rattle.drawing.specs.declared.Desk.{Desk}
 use Rattle.hearing.specs.Heard.{handled, obeyed}
-use Rattle.sessions.specs.Session.{World, act}
+use Rattle.answering.specs.World.{World, act}
 use Rattle.sessions.specs.Whole.{whole}
 use Rattle.nights.specs.Runs.{Stage}
 use Rattle.demand3.specs.Words.{SameOrder}

@@ -12,7 +12,7 @@ use Rattle.lines.specs.declared.Order as typed
 use Rattle.drawing.specs.Desk.{districtsHere, jobHere, withDistricts, withJob}
 use Rattle.drawing.specs.declared.Desk.{Desk}
 use Rattle.hearing.specs.Heard.{handled, obeyed, drawn}
-use Rattle.sessions.specs.Session.{World, saying, act}
+use Rattle.answering.specs.World.{World, saying, act}
 use Rattle.sessions.specs.Whole.{firstWorld}
 use Rattle.nights.specs.Runs.{Stage, after, rehearsed, beginning, rehearsed-then}
 use Rattle.rehearsed.specs.Words.{afterwards}

@@ -9,7 +9,8 @@ use Rattle.orders.specs.declared.Order.{Order}
 use Rattle.lines.specs.Feed.{joined}
 use Rattle.lines.specs.Orders.{ordersOf}
 use Rattle.lines.specs.declared.Order as typed
-use Rattle.sessions.specs.Session.{act, freshSession}
+use Rattle.answering.specs.World.{act}
+use Rattle.sessions.specs.Session.{freshSession}
 use Rattle.sessions.specs.Whole.{ended}
 use Rattle.rehearsed.specs.Words.{afterwards}
 use Rattle.rehearsed.specs.Demand3.{Demand3, OneOrder}

@@ -13,7 +13,7 @@ use Rattle.lines.specs.declared.Order as typed
 use Rattle.drawing.specs.Desk.{emptyDesk, districtsHere, jobHere, withDistricts, withJob, fixedDesk}
 use Rattle.drawing.specs.declared.Desk.{Desk}
 use Rattle.hearing.specs.Heard.{turnText}
-use Rattle.sessions.specs.Session.{World, act}
+use Rattle.answering.specs.World.{World, act}
 use Rattle.sessions.specs.Whole.{firstWorld}
 use Rattle.endings.specs.Endings.{firstJobs, shownOf}
 use Rattle.nights.specs.Runs.{Stage, answered}

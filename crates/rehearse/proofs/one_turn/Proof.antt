@@ -1,7 +1,8 @@
 -- `rehearse::one_turn` meets its contract.
 use Rattle.printing.specs.Laws.{text-fits}
 use Rattle.sessions.specs.declared.Fed.{Fed}
-use Rattle.sessions.specs.Session.{World, sessionOf, chunkOf}
+use Rattle.answering.specs.World.{World}
+use Rattle.sessions.specs.Session.{sessionOf, chunkOf}
 use Rattle.lines.specs.Feed.{Reading}
 use Prim.Native.Nat.{ℕ}
 use lib.ListN.{take}

@@ -1,42 +1,32 @@
 -- `sessions::feed_into` meets its contract.
 use Prim.Native.Nat.{_-_, _<_}
 use Rattle.sessions.specs.Lines.{none-known}
-use Rattle.sessions.specs.Reading.{Reads, ends, room-now, waits, at-low, can-hear, text-low, passes, still-room, can-step, can-finish, answer-low, steps, full}
+use Rattle.sessions.specs.Reading.{Reads, ends, room-now, waits, at-low, can-turn, text-low, steps, passes}
 use Rattle.posting.specs.Index.{indexed-none}
 use Rattle.looking.specs.Long.{long-map}
 use Rattle.laws.specs.Choice.{never}
 use Rattle.laws.specs.Tray.{onto-nil}
 use lib.ListN.{length}
 use native.Mathlib.Omega.{arith}
-use mathlib.Core.Path.{refl, sym, _∙_}
+use mathlib.Core.Path.{refl, sym}
 use borrow.Author.Needs.{needs}
 use Rattle.orders.specs.Night.{mostBoxes}
 use Rattle.sessions.proofs.feed_into.Statement.{statement}
 use Rattle.sessions.proofs.feed_into.Tie as tie
 
 abbrev Inv-loop : tie.InvT-loop
-Inv-loop chunk post₀ t₀ boxes₀ used₀ desk₀ line₀ known₀ index₀ tray₀ count₀ text₀ from₀ post t boxes used desk line known index tray count text from =
-    Reads (record { night = record { boxes = boxes₀; used = used₀ }; desk = desk₀; line = line₀ }) post₀ chunk t₀ from post t boxes used desk line known index tray count text
+Inv-loop chunk post₀ t₀ boxes₀ used₀ desk₀ line₀ known₀ index₀ count₀ text₀ from₀ post t boxes used desk line known index count text from =
+    Reads (record { night = record { boxes = boxes₀; used = used₀ }; desk = desk₀; line = line₀ }) post₀ chunk t₀ from post t boxes used desk line known index count text
 
 abbrev μ-loop : tie.MeasureT-loop
-μ-loop chunk post₀ t₀ boxes₀ used₀ desk₀ line₀ known₀ index₀ tray₀ count₀ text₀ from₀ post t boxes used desk line known index tray count text from = length chunk - from
+μ-loop chunk post₀ t₀ boxes₀ used₀ desk₀ line₀ known₀ index₀ count₀ text₀ from₀ post t boxes used desk line known index count text from = length chunk - from
 
--- where a fact stands: from the answer to an order back to the step of its box, to that it goes, to what was heard, to the end of its line,
--- to what was asked, and to the loop
-abbrev finish-of : tie.After-struct-known2 Inv-loop μ-loop → tie.After-finish Inv-loop μ-loop
-finish-of c = c .before .before .before .before .before
+-- where a fact stands: from what a turn left back to the turn, to the end of its line, to what was asked, and to the loop
+abbrev turn-of : tie.After-t Inv-loop μ-loop → tie.After-turn Inv-loop μ-loop
+turn-of c = c .before .before .before
 
-abbrev step-of : tie.After-finish Inv-loop μ-loop → tie.After-step Inv-loop μ-loop
-step-of c = c .before .before .before .before .before
-
-abbrev goes-of : tie.After-step Inv-loop μ-loop → tie.Then2 Inv-loop μ-loop
-goes-of c = c .before .before .before
-
-abbrev heard-of : tie.Then2 Inv-loop μ-loop → tie.After-t Inv-loop μ-loop
-heard-of c = c .before .before .before .before .before
-
-abbrev ended-of : tie.After-t Inv-loop μ-loop → tie.Then1 Inv-loop μ-loop
-ended-of c = c .before .before .before .before .before
+abbrev ended-of : tie.After-turn Inv-loop μ-loop → tie.Then1 Inv-loop μ-loop
+ended-of c = c .before .before .before .before
 
 abbrev ask-of : tie.Then1 Inv-loop μ-loop → tie.After-ask Inv-loop μ-loop
 ask-of c = c .before .before .before
@@ -67,7 +57,6 @@ loop-holds c =
       post-long = refl;
       boxes-long = long-map _ _ _ (a .s .night .boxes) mostBoxes (b .good .0 .1 .1 .0 .1 .1 .0 .1 .0 .1);
       known-long = refl;
-      tray-long = refl;
       index-long = refl;
       holds = record { line-is = refl; desk-is = refl; night-is = refl; post-is = refl };
       said = refl;
@@ -90,160 +79,72 @@ array-copy-out-x c = low c
 array-read-sure : tie.Need-array-read-sure Inv-loop μ-loop
 array-read-sure c = low (c .before)
 
-sub-hear : tie.Need-sub-hear Inv-loop μ-loop
-sub-hear c = let k = ask-of (c .before .before) in let m = room-now (loop-of k .loop .inv) (k .ask .ensures) in omega (arith, m)
+sub-turn : tie.Need-sub-turn Inv-loop μ-loop
+sub-turn c = let k = ask-of (c .before .before) in let m = room-now (loop-of k .loop .inv) (k .ask .ensures) in omega (arith, m)
 
-part-hear-start : tie.Need-part-hear-start Inv-loop μ-loop
-part-hear-start c = let k = ask-of (c .before .before) in let m = room-now (loop-of k .loop .inv) (k .ask .ensures) in omega (arith, m)
+part-turn-start : tie.Need-part-turn-start Inv-loop μ-loop
+part-turn-start c = let k = ask-of (c .before .before) in let m = room-now (loop-of k .loop .inv) (k .ask .ensures) in omega (arith, m)
 
-part-hear-end : tie.Need-part-hear-end Inv-loop μ-loop
-part-hear-end c = omega arith
+part-turn-end : tie.Need-part-turn-end Inv-loop μ-loop
+part-turn-end c = omega arith
 
-hear-requires : tie.Need-hear-requires Inv-loop μ-loop
-hear-requires c κs = let e = c .before .before .before in let k = ask-of e in can-hear (loop-of k .loop .inv) (k .ask .ensures) (e .if1 .taken) _
-
-array-write-known : tie.Need-array-write-known Inv-loop μ-loop
-array-write-known c = low (ended-of (c .before .before .before))
+turn-requires : tie.Need-turn-requires Inv-loop μ-loop
+turn-requires c κs = let e = c .before .before .before in let k = ask-of e in can-turn (loop-of k .loop .inv) (k .ask .ensures) (e .if1 .taken) _
 
 add-text : tie.Need-add-text Inv-loop μ-loop
 add-text c =
-    let w = c .before .before .before .before in
-    let e = ended-of w in
+    let w = c .before .before .before in
+    let p = turn-of w in
+    let e = ended-of p in
     let k = ask-of e in
     let l = loop-of k .loop in
-    let m = text-low (l .inv) (k .ask .ensures) (e .if1 .taken) (k .ask .kept .1 .1 .1 .1 .1 .1 .0) _ (w .before .hear .ensures) (w .t .given .1) in
+    let m = text-low (l .inv) (k .ask .ensures) (e .if1 .taken) (k .ask .kept .1 .1 .1 .1 .1 .1 .0) _ (p .turn .ensures) (p .turn .kept .1 .1 .1 .1 .1 .1 .0) (w .t .given .1) in
     omega (arith, m, short (loop-of k))
 
-slice-aggregate-step : tie.Need-slice-aggregate-step Inv-loop μ-loop
-slice-aggregate-step c = sym (loop-of (ask-of (ended-of (heard-of (c .before .before)))) .loop .inv .tray-long)
-
-step-requires : tie.Need-step-requires Inv-loop μ-loop
-step-requires c κs =
-    let g = c .before .before in
-    let w = heard-of g in
-    let e = ended-of w in
-    let k = ask-of e in
-    let l = loop-of k .loop in
-    can-step (l .inv) (k .ask .ensures) (e .if1 .taken) (k .ask .kept .1 .1 .1 .1 .1 .1 .0) _ (w .before .hear .ensures) (w .t .given .1) (g .if2 .taken)
-
-slice-aggregate-finish : tie.Need-slice-aggregate-finish Inv-loop μ-loop
-slice-aggregate-finish c =
-    let p = c .before .before in
-    sym (p .step .kept .1 .1 .1 .1 .0 ∙ loop-of (ask-of (ended-of (heard-of (goes-of p)))) .loop .inv .tray-long)
-
-sub-finish : tie.Need-sub-finish Inv-loop μ-loop
-sub-finish c =
-    let p = c .before .before .before in
-    let g = goes-of p in
-    let w = heard-of g in
-    let e = ended-of w in
-    let k = ask-of e in
-    let l = loop-of k .loop in
-    let m = still-room (l .inv) (k .ask .ensures) (e .if1 .taken) (k .ask .kept .1 .1 .1 .1 .1 .1 .0) _ (w .before .hear .ensures) (w .t .given .1) (g .if2 .taken) in
-    omega (arith, m)
-
-part-finish-start : tie.Need-part-finish-start Inv-loop μ-loop
-part-finish-start c =
-    let p = c .before .before .before in
-    let g = goes-of p in
-    let w = heard-of g in
-    let e = ended-of w in
-    let k = ask-of e in
-    let l = loop-of k .loop in
-    let m = still-room (l .inv) (k .ask .ensures) (e .if1 .taken) (k .ask .kept .1 .1 .1 .1 .1 .1 .0) _ (w .before .hear .ensures) (w .t .given .1) (g .if2 .taken) in
-    omega (arith, m)
-
-part-finish-end : tie.Need-part-finish-end Inv-loop μ-loop
-part-finish-end c = omega arith
-
-finish-requires : tie.Need-finish-requires Inv-loop μ-loop
-finish-requires c κs =
-    let p = c .before .before .before .before in
-    let g = goes-of p in
-    let w = heard-of g in
-    let e = ended-of w in
-    let k = ask-of e in
-    let l = loop-of k .loop in
-    can-finish (l .inv) (k .ask .ensures) (e .if1 .taken) (k .ask .kept .1 .1 .1 .1 .1 .1 .0) _ (w .before .hear .ensures) (w .t .given .1) (g .if2 .taken) (p .step .ensures) (p .step .kept .1 .1 .1 .1 .0)
-
-add-text-2 : tie.Need-add-text-2 Inv-loop μ-loop
-add-text-2 c =
-    let b = finish-of c in
-    let p = step-of b in
-    let g = goes-of p in
-    let w = heard-of g in
-    let e = ended-of w in
-    let k = ask-of e in
-    let l = loop-of k .loop in
-    let m = answer-low (l .inv) (k .ask .ensures) (e .if1 .taken) (k .ask .kept .1 .1 .1 .1 .1 .1 .0) _ (w .before .hear .ensures) (w .t .given .1)
-    (g .if2 .taken) (p .step .ensures) (p .step .kept .1 .1 .1 .1 .0) (b .finish .ensures) (b .finish .kept .1 .1 .1 .1 .0) (c .before .before .t2 .given .1) in
-    omega (arith, m, w .t .given .1, short (loop-of k))
+array-write-known : tie.Need-array-write-known Inv-loop μ-loop
+array-write-known c = low (ended-of (turn-of (c .before .before .before)))
 
 mul-boxes : tie.Need-mul-boxes Inv-loop μ-loop
-mul-boxes c =
-    let g = low (ended-of (heard-of (goes-of (step-of (finish-of (c .before .before)))))) in
-    omega (arith, g)
+mul-boxes c = let g = low (ended-of (turn-of (c .before .before .before .before .before))) in omega (arith, g)
 
 array-set-from-boxes : tie.Need-array-set-from-boxes Inv-loop μ-loop
-array-set-from-boxes c = low (ended-of (heard-of (goes-of (step-of (finish-of (c .before .before))))))
+array-set-from-boxes c = low (ended-of (turn-of (c .before .before .before .before .before)))
 
 loop-less : tie.Need-loop-less Inv-loop μ-loop
 loop-less c =
-    let k = ask-of (ended-of (heard-of (goes-of (step-of (finish-of (c .before .before)))))) in
-    let A = k .ask .ensures in
+    let A = ask-of (ended-of (turn-of (c .before .before .before .before .before))) .ask .ensures in
     omega (arith, A .up, A .low)
 
 loop-again : tie.Need-loop-again Inv-loop μ-loop
 loop-again c =
-    let b = finish-of (c .before .before) in
-    let p = step-of b in
-    let g = goes-of p in
-    let w = heard-of g in
-    let e = ended-of w in
+    let w = c .before .before .before .before .before in
+    let p = turn-of w in
+    let e = ended-of p in
     let k = ask-of e in
     let l = loop-of k .loop in
-    steps (l .inv) (k .ask .ensures) (e .if1 .taken) (k .ask .kept .1 .1 .1 .1 .1 .1 .0) _ (w .before .hear .ensures) (w .t .given .1)
-    (g .if2 .taken) (p .step .ensures) (p .step .kept .1 .1 .1 .1 .0) (b .finish .ensures) (b .finish .kept .1 .1 .1 .1 .0) (c .before .before .before .before .t2 .given .1) (c .before .if3 .taken)
+    steps (l .inv) (k .ask .ensures) (e .if1 .taken) (k .ask .kept .1 .1 .1 .1 .1 .1 .0) _ (p .turn .ensures) (p .turn .kept .1 .1 .1 .1 .1 .1 .0) (w .t .given .1) (c .before .if2 .taken)
 
 loop-less-2 : tie.Need-loop-less-2 Inv-loop μ-loop
 loop-less-2 c =
-    let k = ask-of (ended-of (heard-of (goes-of (step-of (finish-of (c .before)))))) in
-    let A = k .ask .ensures in
+    let A = ask-of (ended-of (turn-of (c .before .before .before .before))) .ask .ensures in
     omega (arith, A .up, A .low)
 
 loop-again-2 : tie.Need-loop-again-2 Inv-loop μ-loop
 loop-again-2 c =
-    let b = finish-of (c .before) in
-    let p = step-of b in
-    let g = goes-of p in
-    let w = heard-of g in
-    let e = ended-of w in
+    let w = c .before .before .before .before in
+    let p = turn-of w in
+    let e = ended-of p in
     let k = ask-of e in
     let l = loop-of k .loop in
-    full (l .inv) (k .ask .ensures) (e .if1 .taken) (k .ask .kept .1 .1 .1 .1 .1 .1 .0) _ (w .before .hear .ensures) (w .t .given .1)
-    (g .if2 .taken) (p .step .ensures) (p .step .kept .1 .1 .1 .1 .0) (b .finish .ensures) (b .finish .kept .1 .1 .1 .1 .0) (c .before .before .before .t2 .given .1) (c .if3 .left)
+    passes (l .inv) (k .ask .ensures) (e .if1 .taken) (k .ask .kept .1 .1 .1 .1 .1 .1 .0) _ (p .turn .ensures) (p .turn .kept .1 .1 .1 .1 .1 .1 .0) (w .t .given .1) (c .if2 .left)
 
 loop-less-3 : tie.Need-loop-less-3 Inv-loop μ-loop
 loop-less-3 c =
-    let k = ask-of (ended-of (c .before .before .before .before .before)) in
-    let A = k .ask .ensures in
-    omega (arith, A .up, A .low)
-
-loop-again-3 : tie.Need-loop-again-3 Inv-loop μ-loop
-loop-again-3 c =
-    let w = c .before .before .before .before .before in
-    let e = ended-of w in
-    let k = ask-of e in
-    let l = loop-of k .loop in
-    passes (l .inv) (k .ask .ensures) (e .if1 .taken) (k .ask .kept .1 .1 .1 .1 .1 .1 .0) _ (w .before .hear .ensures) (w .t .given .1) (c .if2 .left)
-
-loop-less-4 : tie.Need-loop-less-4 Inv-loop μ-loop
-loop-less-4 c =
     let A = c .before .before .before .ask .ensures in
     omega (arith, A .up, A .low)
 
-loop-again-4 : tie.Need-loop-again-4 Inv-loop μ-loop
-loop-again-4 c = let k = c .before .before .before in waits (loop-of k .loop .inv) (k .ask .ensures) (c .if1 .left)
+loop-again-3 : tie.Need-loop-again-3 Inv-loop μ-loop
+loop-again-3 c = let k = c .before .before .before in waits (loop-of k .loop .inv) (k .ask .ensures) (c .if1 .left)
 
 same-length : tie.Need-same-length Inv-loop μ-loop
 same-length c = c .before .loop .inv .post-long
@@ -266,20 +167,12 @@ feed-into-spec =
     mul-x
     array-copy-out-x
     array-read-sure
-    sub-hear
-    part-hear-start
-    part-hear-end
-    hear-requires
-    array-write-known
+    sub-turn
+    part-turn-start
+    part-turn-end
+    turn-requires
     add-text
-    slice-aggregate-step
-    step-requires
-    slice-aggregate-finish
-    sub-finish
-    part-finish-start
-    part-finish-end
-    finish-requires
-    add-text-2
+    array-write-known
     mul-boxes
     array-set-from-boxes
     loop-less
@@ -288,8 +181,6 @@ feed-into-spec =
     loop-again-2
     loop-less-3
     loop-again-3
-    loop-less-4
-    loop-again-4
     same-length
     same-length-2
     returns)

@@ -1,7 +1,7 @@
 -- `sessions::last_line` meets its contract.
 use Rattle.sessions.specs.Session.{chunkOf, lastOf, within}
 use Rattle.sessions.specs.Promises.{leaves-as}
-use Rattle.sessions.specs.Lines.{byte-ends}
+use Rattle.answering.specs.Asked.{byte-ends}
 use Rattle.words.specs.Parts.{lineFeed}
 use Rattle.laws.specs.Tray.{onto-nil}
 use Rattle.laws.specs.Choice.{pick-true, pick-false}

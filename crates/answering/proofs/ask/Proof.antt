@@ -1,7 +1,8 @@
--- `sessions::ask` meets its contract.
+-- `answering::ask` meets its contract.
 use Prim.Native.Nat.{_<_}
-use Rattle.sessions.specs.Lines.{line-turn}
-use Rattle.sessions.specs.Session.{act, chunkOf}
+use Rattle.answering.specs.Asked.{line-turn}
+use Rattle.answering.specs.World.{act}
+use Rattle.lines.specs.Feed.{allRead}
 use Rattle.lines.specs.ReadLaws.{held-is, nothing-is}
 use Rattle.lines.specs.declared.LineState.{LineState}
 use Rattle.laws.specs.Choice.{never}
@@ -9,8 +10,8 @@ use lib.ListN.{length, take}
 use native.Mathlib.Omega.{arith}
 use mathlib.Core.Path.{refl, sym, ap, _∙_}
 use borrow.Author.Needs.{needs}
-use Rattle.sessions.proofs.ask.Statement.{statement}
-use Rattle.sessions.proofs.ask.Tie as tie
+use Rattle.answering.proofs.ask.Statement.{statement}
+use Rattle.answering.proofs.ask.Tie as tie
 
 read-on-requires : tie.Need-read-on-requires
 read-on-requires c κs = search needs
@@ -28,8 +29,7 @@ returns c =
     record {
       up = omega (arith, c .if1 .taken, a .pre .0);
       low = q .ensures .1;
-      order-is = c .before .order-of .ensures;
-      part = λ e. (refl, refl, λ s post l. q .ensures .3 s post l);
+      part = λ e. (refl, refl, λ r l. q .ensures .3 r l);
       whole = λ e. never e refl;
     }
 
@@ -59,13 +59,12 @@ returns-2 c =
     record {
       up = omega (arith, q .ensures .0);
       low = omega (arith, h);
-      order-is = e;
       part = λ f. never refl f;
       whole = λ f. (
         rw e at (c .before .before .before .find .ensures),
-        λ s post l.
-            line-turn s post (a .chunk .now) (a .from) (q .result .at) (q .result .line) (o .result) h (q .ensures .2 h) (q .ensures .3 s post l) (held-is (q .result .line) (o .ensures))
-            ∙ ap (λ (z : LineState). record { line = z; state = act (chunkOf s post (take (a .from) (a .chunk .now)) .state) (o .result) }) (sym (nothing-is (c .no-line .ensures))),
+        λ r l.
+            line-turn r (a .chunk .now) (a .from) (q .result .at) (q .result .line) (o .result) h (q .ensures .2 h) (q .ensures .3 r l) (held-is (q .result .line) (o .ensures))
+            ∙ ap (λ (z : LineState). record { line = z; state = act (allRead act r (take (a .from) (a .chunk .now)) .state) (o .result) }) (sym (nothing-is (c .no-line .ensures))),
       );
     }
 

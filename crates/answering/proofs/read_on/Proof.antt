@@ -1,8 +1,8 @@
--- `sessions::read_on` meets its contract.
+-- `answering::read_on` meets its contract.
 use Prim.Native.Nat.{ℕ, _-_, _≤_, _<_}
-use Rattle.sessions.specs.declared.Session.{Session}
-use Rattle.sessions.specs.Lines.{line-as, held-on}
-use Rattle.sessions.specs.Session.{chunkOf}
+use Rattle.answering.specs.Asked.{line-as, held-on}
+use Rattle.answering.specs.World.{World, act}
+use Rattle.lines.specs.Feed.{Reading, allRead}
 use Rattle.lines.specs.declared.LineState.{LineState}
 use Rattle.lines.specs.ReadLaws.{byte-is}
 use Rattle.words.specs.Parts.{lineFeed}
@@ -11,20 +11,19 @@ use lib.ListN.{length, take, getD}
 use lib.Dec.{eqb}
 use native.Mathlib.Omega.{arith}
 use mathlib.Core.Bool.{false}
-use mathlib.Core.List.{List}
 use mathlib.Core.Path.{_≡_, refl, sym, ap, _∙_}
 use borrow.Author.Needs.{needs}
-use Rattle.sessions.proofs.read_on.Statement.{statement}
-use Rattle.sessions.proofs.read_on.Tie as tie
+use Rattle.answering.proofs.read_on.Statement.{statement}
+use Rattle.answering.proofs.read_on.Tie as tie
 
 abbrev Inv-loop : tie.InvT-loop
-Inv-loop chunk from n cur₀ i₀ cur i = (from ≤ i) × (i ≤ n) × (n ≡ length chunk) × ((s : Session) (post : List ℕ) → chunkOf s post (take from chunk) .line ≡ cur₀ → chunkOf s post (take i chunk) ≡ record { line = cur; state = chunkOf s post (take from chunk) .state })
+Inv-loop chunk from n cur₀ i₀ cur i = (from ≤ i) × (i ≤ n) × (n ≡ length chunk) × ((q : Reading World) → allRead act q (take from chunk) .line ≡ cur₀ → allRead act q (take i chunk) ≡ record { line = cur; state = allRead act q (take from chunk) .state })
 
 abbrev μ-loop : tie.MeasureT-loop
 μ-loop chunk from n cur₀ i₀ cur i = n - i
 
 loop-holds : tie.Need-loop-holds Inv-loop μ-loop
-loop-holds c = (search needs, search needs, refl, λ s post e. line-as (chunkOf s post (take (c .before .args .from) (c .before .args .chunk .now))) (c .before .args .line) e)
+loop-holds c = (search needs, search needs, refl, λ q e. line-as (allRead act q (take (c .before .args .from) (c .before .args .chunk .now))) (c .before .args .line) e)
 
 shared-slice-read-byte : tie.Need-shared-slice-read-byte Inv-loop μ-loop
 shared-slice-read-byte c = search needs
@@ -54,9 +53,9 @@ loop-again c =
       omega (arith, l .inv .0),
       omega (arith, h, l .inv .2),
       l .inv .2,
-      λ s post e.
-          held-on s post (a .chunk .now) (l .i) (l .cur) (chunkOf s post (take (a .from) (a .chunk .now)) .state) h nf (l .inv .3 s post e)
-          ∙ ap (λ (z : LineState). record { line = z; state = chunkOf s post (take (a .from) (a .chunk .now)) .state }) (sym (byte-is (l .cur) (getD (a .chunk .now) (l .i) 0) (c .push .ensures))),
+      λ q e.
+          held-on q (a .chunk .now) (l .i) (l .cur) (allRead act q (take (a .from) (a .chunk .now)) .state) h nf (l .inv .3 q e)
+          ∙ ap (λ (z : LineState). record { line = z; state = allRead act q (take (a .from) (a .chunk .now)) .state }) (sym (byte-is (l .cur) (getD (a .chunk .now) (l .i) 0) (c .push .ensures))),
     )
 
 returns-2 : tie.Need-returns-2 Inv-loop μ-loop
@@ -67,8 +66,8 @@ returns-2 c =
       omega (arith, l .inv .0, e),
       omega arith,
       λ h. absurd (omega (arith, h)),
-      λ s post q.
-          ap (λ (k : ℕ). chunkOf s post (take k (a .chunk .now))) (sym e) ∙ l .inv .3 s post q,
+      λ q k.
+          ap (λ (j : ℕ). allRead act q (take j (a .chunk .now))) (sym e) ∙ l .inv .3 q k,
     )
 
 pub read-on-spec : {M : Type 1} → statement M
