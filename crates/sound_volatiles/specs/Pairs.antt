@@ -1,5 +1,5 @@
 -- Kept ACCEPTs, marks and the vote, over the arrays and numbers alone.
-use Prim.Native.Nat.{ℕ, zero, suc, _+_, _*_, _/_, _%_, _<_}
+use Prim.Native.Nat.{ℕ, zero, suc, _+_, _*_, _^_, _/_, _%_, _<_}
 use mathlib.Core.Bool.{Bool, true, _&&_, _||_, and-true, and-assoc}
 use mathlib.Core.List.{List}
 use mathlib.Core.Path.{_≡_, refl, ap, _∙_}
@@ -7,13 +7,17 @@ use native.Mathlib.Nat.{add-zero, add-suc, zero-mul, suc-mul}
 use native.Mathlib.Omega.{arith}
 use lib.ListN.{getD}
 use lib.Dec.{eqb}
-use Rattle.laws.specs.Fold.{allBelow, upto-same}
+use lib.Pow.{pow-pos}
+use borrow.Author.Tests.{lt-ltb}
+use Rattle.laws.specs.Choice.{and-both, or-right}
+use Rattle.laws.specs.Digits.{part, part-beyond}
+use Rattle.laws.specs.Fold.{allBelow, upto-same, all-is}
 use Rattle.house.specs.Limits.{mostDistricts, mostJobs}
 use Rattle.house.specs.Pairs.{district, noBallot, noStamp, isNoBallot, isNoStamp, stampOf}
 use Rattle.house.specs.declared.District.{District}
 use Rattle.house.specs.declared.Ballot.{Ballot}
 use Rattle.house.specs.declared.Stamp.{Stamp}
-use Rattle.plans.specs.Plan.{names, ballotIn}
+use Rattle.plans.specs.Plan.{sizeOf, boxesOf, names, ballotIn}
 use Rattle.plans.specs.declared.Plan.{Plan}
 use Rattle.marks.specs.Marks.{noMarks, marksIn, onlyBoxes}
 use Rattle.boxes.specs.Box.{keptAt, keptBallot, keptStamp, marksAt}
@@ -71,6 +75,14 @@ unnamedBelow P j m n = allBelow (λ d. names P j (district d) || eqb (marksIn P 
 
 unfoldable pub jobMarksSound : Plan → ℕ → ℕ → Bool
 jobMarksSound P j m = onlyBoxes P m && unnamedBelow P j m (P .districts)
+
+-- no marks are sound
+pub unmarked : (P : Plan) (j : ℕ) → jobMarksSound P j noMarks ≡ true
+unfolding jobMarksSound onlyBoxes unnamedBelow marksIn
+unmarked P j =
+    let none : (d : ℕ) → (names P j (district d) || eqb (part 0 (d * sizeOf P) (sizeOf P)) 0) ≡ true =
+    λ d. rw (part-beyond 0 0 (d * sizeOf P) (sizeOf P) (pow-pos 0) (omega arith)) (or-right (names P j (district d)) true refl) in
+    and-both _ _ (lt-ltb 0 (2 ^ boxesOf P) (pow-pos (boxesOf P))) (all-is _ (P .districts) (λ d l. none d))
 
 unfoldable pub marksBelow : Plan → List ℕ → ℕ → Bool
 marksBelow P ms n = allBelow (λ j. jobMarksSound P j (getD ms j noMarks)) n

@@ -12,12 +12,14 @@ use plans::Plan;
 // an ACCEPT is kept for each job and district, job by job
 const MOST_KEPT: usize = (house::MOST_JOBS as usize) * (house::MOST_DISTRICTS as usize);
 
-// an ACCEPT kept for a named district, or none
+// an ACCEPT kept for a named district, or none: most places have none, and nothing more is asked of them
 fn pair_sound(plan: Plan, job: u8, d: District, b: Ballot, s: Stamp) -> bool
     ensures { λ r. ⌜ r ≡ pairSound plan job d b s ⌝ }
 {
-    (house::is_no_ballot(b) & house::is_no_stamp(s))
-        | (plans::named(plan, job, d) & (plans::ballot_in(plan, d, b) & house::stamp_of(d, s)))
+    if house::is_no_ballot(b) & house::is_no_stamp(s) {
+        return true;
+    }
+    plans::named(plan, job, d) & (plans::ballot_in(plan, d, b) & house::stamp_of(d, s))
 }
 
 pub fn kept_sound(plan: Plan, x: BoxState) -> bool
@@ -55,6 +57,9 @@ fn unnamed_below(plan: Plan, job: u8, marks: u32) -> bool
 fn job_marks_sound(plan: Plan, job: u8, marks: u32) -> bool
     ensures { λ r. ⌜ r ≡ jobMarksSound plan job marks ⌝ }
 {
+    if marks == 0 {
+        return true;
+    }
     marks::only_boxes(plan, marks) & unnamed_below(plan, job, marks)
 }
 

@@ -1,5 +1,6 @@
 -- `sound_volatiles::job_marks_sound` meets its contract.
-use Rattle.sound_volatiles.specs.Pairs.{jobMarksSound}
+use Rattle.sound_volatiles.specs.Pairs.{jobMarksSound, unmarked}
+use mathlib.Core.Path.{sym, ap, _∙_}
 use borrow.Author.Needs.{needs}
 use Rattle.sound_volatiles.proofs.job_marks_sound.Statement.{statement}
 use Rattle.sound_volatiles.proofs.job_marks_sound.Tie as tie
@@ -11,8 +12,11 @@ unnamed-below-requires : tie.Need-unnamed-below-requires
 unnamed-below-requires c κs = search needs
 
 returns : tie.Need-returns
+returns c = let a = c .before .args in sym (ap (jobMarksSound (a .plan) (a .job)) (c .if1 .taken) ∙ unmarked (a .plan) (a .job))
+
+returns-2 : tie.Need-returns-2
 unfolding jobMarksSound
-returns c = rw (c .before .only-boxes .ensures, c .unnamed-below .ensures)
+returns-2 c = rw (c .before .only-boxes .ensures, c .unnamed-below .ensures)
 
 pub job-marks-sound-spec : {M : Type 1} → statement M
-job-marks-sound-spec = tie.close (tie.spec only-boxes-requires unnamed-below-requires returns)
+job-marks-sound-spec = tie.close (tie.spec returns only-boxes-requires unnamed-below-requires returns-2)

@@ -1,5 +1,9 @@
 -- `sound_volatiles::pair_sound` meets its contract.
 use Rattle.sound_volatiles.specs.Pairs.{pairSound}
+use Rattle.house.specs.Pairs.{isNoBallot, isNoStamp}
+use Rattle.laws.specs.Choice.{or-left}
+use mathlib.Core.Bool.{false, _&&_}
+use mathlib.Core.Path.{_≡_, sym}
 use borrow.Author.Needs.{needs}
 use Rattle.sound_volatiles.proofs.pair_sound.Statement.{statement}
 use Rattle.sound_volatiles.proofs.pair_sound.Tie as tie
@@ -21,7 +25,15 @@ stamp-of-requires c κs = search needs
 
 returns : tie.Need-returns
 unfolding pairSound
-returns c = rw (c .before .before .before .before .is-no-ballot .ensures, c .before .before .before .is-no-stamp .ensures, c .before .before .named .ensures, c .before .ballot-in .ensures, c .stamp-of .ensures)
+returns c = sym (or-left _ _ (rw (c .before .before .is-no-ballot .ensures, c .before .is-no-stamp .ensures) at (c .if1 .taken)))
+
+returns-2 : tie.Need-returns-2
+unfolding pairSound
+returns-2 c =
+    let i = c .before .before .before in
+    let a = i .before .before .before .args in
+    let f : (isNoBallot (a .b) && isNoStamp (a .s)) ≡ false = rw (i .before .before .is-no-ballot .ensures, i .before .is-no-stamp .ensures) at (i .if1 .left) in
+    rw (f, c .before .before .named .ensures, c .before .ballot-in .ensures, c .stamp-of .ensures)
 
 pub pair-sound-spec : {M : Type 1} → statement M
 pair-sound-spec =
@@ -29,7 +41,8 @@ pair-sound-spec =
     (tie.spec
     is-no-ballot-requires
     is-no-stamp-requires
+    returns
     named-requires
     ballot-in-requires
     stamp-of-requires
-    returns)
+    returns-2)
