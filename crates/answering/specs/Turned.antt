@@ -2,10 +2,11 @@
 use Prim.Native.Nat.{ℕ, _+_, _≤_}
 use mathlib.Core.Bool.{true, false}
 use mathlib.Core.List.{List}
+use mathlib.Core.Logic.{⊎-elim}
 use mathlib.Core.Path.{_≡_, refl, sym, ap, _∙_}
 use native.Mathlib.Omega.{arith}
 use lib.ListN.{length, set, take}
-use Rattle.laws.specs.Choice.{pick, pick-true, pick-false, never}
+use Rattle.laws.specs.Choice.{pick, pick-false, never, look}
 use Rattle.laws.specs.Tray.{onto}
 use Rattle.house.specs.Limits.{leastTray}
 use Rattle.plans.specs.Plan.{planSound}
@@ -114,47 +115,32 @@ module _ {desk : Desk} {used : ℕ} {x : BoxState} {post : List ℕ} {o : Order}
         said : after ≡ onto answer before
         said = rw (← H .go go .2) (S .printed)
 
-        pub turns-stepped : v .fits ≡ true
-            → Turns desk used x post o (record { state = out .state; desk = h .desk; used = v .used; text = v .text; known = h .known; new = true }) later before after
+        -- its records fit, or the post is full
+        stepped : (n : Night) (at : ℕ) → Stands (desk .plan) used x post (askOf o) n at → v .fits ≡ true
+            → handled desk n post o ≡ record { desk = fixedDesk desk; night = record { boxes = set (n .boxes) at (out .state); used = v .used }; post = later; text = turnText Done (out .records) }
+        stepped n at T f = H .go go .4 n ∙ obeyed-is desk (turned-does (H .go go .0) out is n at T written later (wrote-now .1) settled (S .settles) f)
+
+        full : (n : Night) (at : ℕ) → Stands (desk .plan) used x post (askOf o) n at → v .fits ≡ false
+            → handled desk n post o ≡ record { desk = fixedDesk desk; night = record { boxes = n .boxes; used = v .used }; post = later; text = turnText (No postFull) 0 }
+        full n at T f =
+            H .go go .4 n ∙ obeyed-is desk (turned-full (H .go go .0) out is n at T written later (wrote-now .1) settled (S .settles) f)
+            ∙ ap
+            (λ (k : ℕ). record { desk = fixedDesk desk; night = record { boxes = n .boxes; used = k }; post = later; text = turnText (No postFull) 0 })
+            (T .used-is ∙ sym (S .settles .used-is ∙ pick-false (used + out .used) used f))
+
+        pub turns-gone : Turns desk used x post o (record { state = out .state; desk = h .desk; used = v .used; text = v .text; known = h .known; new = v .fits }) later before after
         unfolding pick
-        turns-stepped f =
+        turns-gone =
             record {
               most = S .few;
               does = λ n at T. (
                 answer,
-                H .go go .4 n ∙ obeyed-is desk (turned-does (H .go go .0) out is n at T written later (wrote-now .1) settled (S .settles) f)
-                    ∙ ap
-                    (λ (w : List ℕ). record { desk = fixedDesk desk; night = record { boxes = set (n .boxes) at (out .state); used = v .used }; post = later; text = w })
-                    (sym (pick-true (turnText Done (out .records)) (turnText (No postFull) 0) f))
-                    ∙ ap (λ (d : Desk). record { desk = d; night = record { boxes = set (n .boxes) at (out .state); used = v .used }; post = later; text = answer }) (sym (H .go go .3)),
+                rw (H .go go .3) (⊎-elim (λ f. rw f (stepped n at T f)) (λ f. rw f (full n at T f)) (look (v .fits))),
                 S .said,
                 said,
               );
               known = H .known;
               stays = λ e. rw (H .go go .3, after-state (desk .plan) x done is) (H .go go .0 .stays);
-              fixed = H .fixed;
-              more = settles-more (S .settles);
-              front = settles-front (S .settles);
-            }
-
-        pub turns-full : v .fits ≡ false
-            → Turns desk used x post o (record { state = x; desk = h .desk; used = v .used; text = v .text; known = h .known; new = false }) later before after
-        unfolding pick
-        turns-full f =
-            record {
-              most = S .few;
-              does = λ n at T.
-                  let u : n .used ≡ v .used = T .used-is ∙ sym (S .settles .used-is ∙ pick-false (used + out .used) used f) in (
-                    answer,
-                    H .go go .4 n ∙ obeyed-is desk (turned-full (H .go go .0) out is n at T written later (wrote-now .1) settled (S .settles) f)
-                        ∙ ap (λ (w : List ℕ). record { desk = fixedDesk desk; night = n; post = later; text = w }) (sym (pick-false (turnText Done (out .records)) (turnText (No postFull) 0) f))
-                        ∙ ap (λ (d : Desk). record { desk = d; night = n; post = later; text = answer }) (sym (H .go go .3))
-                        ∙ ap (λ (k : ℕ). record { desk = h .desk; night = record { boxes = n .boxes; used = k }; post = later; text = answer }) u,
-                    S .said,
-                    said,
-                  );
-              known = H .known;
-              stays = λ e. never e refl;
               fixed = H .fixed;
               more = settles-more (S .settles);
               front = settles-front (S .settles);

@@ -44,8 +44,8 @@ struct Finished {
     fits: bool,
 }
 
-// an order is carried out or refused: the box after it, and whether that is a new one; the plan; how much of the post is used, how many
-// bytes of text it gave; and whether the box, as it was, is known to be sound
+// an order is carried out or refused: the state that its box came to, and whether this is the box's new one; the plan; how much of the post is
+// used, how many bytes of text it gave; and whether the box, as it was, is known to be sound
 pub struct Turned {
     pub state: BoxState,
     pub desk: Desk,
@@ -90,7 +90,6 @@ pub fn ask(
     let end = scan.at;
     let whole = scan.line;
     let typed = lines::order_held(whole);
-    let order = hearing::order_of(typed);
     if chunk.len() <= end {
         return Asked {
             line: whole,
@@ -103,6 +102,7 @@ pub fn ask(
         };
     }
     let plan = desk.plan;
+    let order = hearing::order_of(typed);
     let place = orders::find(plan, desk.fixed, used, order, post, index, count);
     Asked {
         line: lines::no_line(),
@@ -159,24 +159,14 @@ pub fn turn(
         let order = hearing::order_of(typed);
         let out = rehearsal::step(plan, x, order, r, &mut tray);
         let f = finish(used, out.used, out.records, &tray, post, t);
-        if f.fits {
-            let y = out.state;
-            return Turned {
-                state: y,
-                desk: next,
-                used: f.used,
-                text: f.text,
-                known: h.known,
-                new: true,
-            };
-        }
+        let y = out.state;
         return Turned {
-            state: x,
+            state: y,
             desk: next,
             used: f.used,
             text: f.text,
             known: h.known,
-            new: false,
+            new: f.fits,
         };
     }
     Turned {

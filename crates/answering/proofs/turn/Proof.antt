@@ -1,5 +1,5 @@
 -- `answering::turn` meets its contract.
-use Rattle.answering.specs.Turned.{turns-passed, can-step, can-finish, turns-stepped, turns-full}
+use Rattle.answering.specs.Turned.{turns-passed, can-step, can-finish, turns-gone}
 use mathlib.Core.Path.{refl, sym}
 use borrow.Author.Needs.{needs}
 use Rattle.answering.proofs.turn.Statement.{statement}
@@ -39,34 +39,21 @@ same-length c = search needs
 same-length-2 : tie.Need-same-length-2
 same-length-2 c = search needs
 
+returns : tie.Need-returns
+returns c =
+    let f = c .before .before .before .before .before in
+    let p = step-of f in
+    let h = heard-of p in
+    turns-gone (h .hear .ensures) (p .before .before .before .before .before .if1 .taken) (p .before .before .order-of .ensures) _ (p .step .ensures) (p .step .kept .1 .1 .1 .1 .0) (f .finish .ensures)
+
 same-length-3 : tie.Need-same-length-3
 same-length-3 c = search needs
 
 same-length-4 : tie.Need-same-length-4
 same-length-4 c = search needs
 
-same-length-5 : tie.Need-same-length-5
-same-length-5 c = search needs
-
-same-length-6 : tie.Need-same-length-6
-same-length-6 c = search needs
-
-returns : tie.Need-returns
-returns c =
-    let f = c .before .before .before .before .before .before in
-    let p = step-of f in
-    let h = heard-of p in
-    turns-stepped (h .hear .ensures) (p .before .before .before .before .before .if1 .taken) (p .before .before .order-of .ensures) _ (p .step .ensures) (p .step .kept .1 .1 .1 .1 .0) (f .finish .ensures) (c .before .if2 .taken)
-
 returns-2 : tie.Need-returns-2
-returns-2 c =
-    let f = c .before .before .before .before .before in
-    let p = step-of f in
-    let h = heard-of p in
-    turns-full (h .hear .ensures) (p .before .before .before .before .before .if1 .taken) (p .before .before .order-of .ensures) _ (p .step .ensures) (p .step .kept .1 .1 .1 .1 .0) (f .finish .ensures) (c .if2 .left)
-
-returns-3 : tie.Need-returns-3
-returns-3 c = turns-passed (c .before .before .before .before .hear .ensures) (c .if1 .left)
+returns-2 c = turns-passed (c .before .before .before .before .hear .ensures) (c .if1 .left)
 
 pub turn-spec : {M : Type 1} → statement M
 turn-spec =
@@ -83,7 +70,4 @@ turn-spec =
     returns
     same-length-3
     same-length-4
-    returns-2
-    same-length-5
-    same-length-6
-    returns-3)
+    returns-2)
