@@ -11,12 +11,24 @@ OWN = os.path.join(KIT, "on", os.uname().machine)
 CLANG = os.path.join(OWN, "toolchain", "bin", "clang")
 
 
-def crates_below(crate):
-    """The crates that a crate uses, as crates.txt says."""
+def rooms_below(room):
+    """The rooms and libraries that a room rests on, however far below, as crates.txt says: lowest first."""
+    rests = {}
     for line in open(os.path.join(ROOT, "crates.txt")):
-        if line.startswith(crate + ":"):
-            return line.split(":", 1)[1].split()
-    sys.exit("crates.txt has no %s" % crate)
+        if ":" in line and not line.startswith("#"):
+            rests[line.split(":")[0]] = line.split(":")[1].split()
+    if room not in rests:
+        sys.exit("crates.txt has no %s" % room)
+    found = []
+
+    def visit(name):
+        for below in rests.get(name, []):
+            if below not in found:
+                visit(below)
+                found.append(below)
+
+    visit(room)
+    return found
 
 
 def clang_that_tells(work):
@@ -54,7 +66,7 @@ def intermediate(work, main, crate, libraries):
 
 
 def program():
-    return os.path.join(ROOT, "crates", "rehearse", "src", "main.rt"), "rehearse", crates_below("rehearse")
+    return os.path.join(ROOT, "crates", "rehearse", "src", "main.rt"), "rehearse", rooms_below("rehearse")
 
 
 def for_this_machine(work):

@@ -3,19 +3,19 @@ use Prim.Native.Nat.{ℕ, _+_, _-_, _*_}
 use mathlib.Core.Bool.{Bool, true, false}
 use mathlib.Core.List.{List}
 use lib.ListN.{getD, set, replicate}
-use lib.Dec.{eqb}
+use lib.Dec.{eqb, ltb}
 use Rattle.laws.specs.Choice.{pick}
 use Rattle.laws.specs.Fold.{someBelow}
 use Rattle.house.specs.Limits.{mostDistricts, mostJobs}
-use Rattle.house.specs.Pairs.{boxNo, noStamp, noBallot, noRow}
+use Rattle.house.specs.Pairs.{boxNo, noStamp, noBallot, noRow, stamp}
 use Rattle.house.specs.declared.Stamp.{Stamp}
 use Rattle.house.specs.declared.Ballot.{Ballot}
 use Rattle.house.specs.declared.BoxNo.{BoxNo}
 use Rattle.house.specs.declared.District.{District}
 use Rattle.house.specs.declared.Row.{Row}
-use Rattle.plans.specs.Plan.{homeOf}
-use Rattle.plans.specs.declared.Plan.{Plan}
-use Rattle.marks.specs.Marks.{noMarks}
+use Rattle.house.specs.Plan.{homeOf}
+use Rattle.house.specs.declared.Plan.{Plan}
+use Rattle.house.specs.Marks.{noMarks}
 use Rattle.records.specs.Rec.{noRows}
 use Rattle.boxes.specs.declared.BoxState.{BoxState}
 use Rattle.boxes.specs.declared.Volatile.{Volatile}
@@ -220,3 +220,7 @@ putVote x v =
       core = x .core;
       volatile = record { «kept_ballots» = x .volatile .«kept_ballots»; «kept_stamps» = x .volatile .«kept_stamps»; marks = x .volatile .marks; vote = v };
     }
+
+-- the clock raised to a time (line 14)
+unfoldable pub raised : ℕ → ℕ → ℕ
+raised c t = pick (ltb c t) t c

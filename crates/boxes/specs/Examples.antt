@@ -2,34 +2,22 @@
 use Prim.Native.Nat.{ℕ}
 use mathlib.Core.Bool.{Bool, true, false, not, _&&_}
 use mathlib.Core.List.{List, [], _∷_, foldl}
-use mathlib.Core.Path.{_≡_, refl}
-use lib.Count.{ones}
 use lib.ListN.{set, replicate}
 use lib.Dec.{eqb}
-use Rattle.laws.specs.Choice.{pick}
-use Rattle.laws.specs.Fold.{allBelow}
-use Rattle.laws.specs.Digits.{digit, part, withDigit}
-use Rattle.laws.specs.Lex.{larger, largest}
-use Rattle.laws.specs.Majority.{majority}
 use Rattle.house.specs.Limits.{noJob}
-use Rattle.house.specs.Pairs.{district, boxNo, stamp, ballot, noStamp, noRow, stampLt, ballotLt, sameStamp, sameBallot, latestStamp, isNoStamp, isNoBallot, timeFits, realBallot}
+use Rattle.house.specs.Pairs.{district, boxNo, stamp, ballot, noStamp, noRow, stampLt, ballotLt, sameStamp, sameBallot, latestStamp}
 use Rattle.house.specs.declared.Stamp.{Stamp}
 use Rattle.house.specs.declared.Ballot.{Ballot}
 use Rattle.house.specs.declared.Row.{Row}
-use Rattle.plans.specs.Plan.{sizeOf, quorumOf, isJob, maskOf, names, planSound, countsSound, masksSound, maskSound, isBox, boxesOf, homeOf, ballotIn, noneOrIn}
-use Rattle.plans.specs.declared.Plan.{Plan}
-use Rattle.marks.specs.Marks.{noMarks, onlyBoxes, marked, marksIn, quorumIn, quorumBelow, quorumEach}
-use Rattle.records.specs.Format.{entry, orPlan, ballotsIn, stampsIn, rowsIn}
-use Rattle.records.specs.Fields.{ballots, stamps, rows}
+use Rattle.house.specs.declared.Plan.{Plan}
+use Rattle.house.specs.Marks.{noMarks, marked, quorumIn, quorumEach}
 use Rattle.records.specs.Rec.{newleader, noRows, carried}
-use Rattle.records.specs.Rules.{rowSound, rowsSound, startRow, isNoRow, spareRows}
-use Rattle.records.specs.Bytes.{headBytes, ballotBytes, stampBytes, rowBytes, encode}
-use Rattle.boxes.specs.Box.{fresh, freshVolatile, rowAt, sentAt, keptAt, keptBallot, keptStamp, marksAt, listedAt, putTable, putMode}
-use Rattle.boxes.specs.Sound.{sound, boxSound, rangeSound, ballotsSound, tableSound, sentSound, keptSound, jobKeptSound, allKeptSound, marksSound, allMarksSound, unlisted, listSound, unvoted, voteSound}
-use Rattle.boxes.specs.Ready.{isOpen, openAbove, ready, better, nextBelow, nextReady}
-use Rattle.boxes.specs.Multicast.{raised}
-use Rattle.boxes.specs.Leaders.{topBallot, voteRow, committedAt, acceptedAt, firstRow, mergedRow}
-use Rattle.boxes.specs.Orders.{nextBallot}
+use Rattle.records.specs.Bytes.{encode}
+use Rattle.boxes.specs.Box.{fresh, putTable, putMode}
+use Rattle.boxes.specs.Sound.{sound}
+use Rattle.boxes.specs.Ready.{nextReady}
+use Rattle.boxes.specs.Merge.{mergedRow}
+use Rattle.boxes.specs.Stand.{nextBallot}
 use Rattle.boxes.specs.declared.BoxState.{BoxState}
 use Rattle.boxes.specs.declared.Vote.{Vote}
 use Rattle.boxes.specs.declared.Status.the-variants.{Follower}
@@ -101,12 +89,3 @@ examples =
     -- 14 NEWLEADER (1,0) from 0 to 1: 04 05 00 01 FF 01 00 01 00 00 00
     ∷ sameBytes (encode night (carried (newleader (boxNo 0) (boxNo 1) (ballot 1 0)))) (0x04 ∷ 0x05 ∷ 0x00 ∷ 0x01 ∷ 0xFF ∷ 0x01 ∷ 0x00 ∷ 0x01 ∷ 0x00 ∷ 0x00 ∷ 0x00 ∷ [])
     ∷ []
-
-pub all-examples : examples ≡ replicate 14 true
-unfolding examples stampLt ballotLt sameStamp sameBallot larger largest pick allBelow digit part withDigit majority ones sizeOf quorumOf isJob maskOf
-    names marked marksIn quorumIn quorumBelow quorumEach entry orPlan ballotsIn stampsIn rowsIn ballots stamps rows carried headBytes ballotBytes
-    stampBytes rowBytes encode fresh rowAt sentAt isOpen openAbove ready better nextBelow raised topBallot voteRow committedAt acceptedAt firstRow
-    mergedRow nextBallot sound boxSound rangeSound ballotsSound tableSound sentSound keptSound jobKeptSound allKeptSound marksSound allMarksSound
-    unlisted listSound unvoted voteSound rowSound rowsSound startRow isNoRow spareRows planSound countsSound masksSound maskSound isBox boxesOf homeOf
-    ballotIn noneOrIn isNoStamp isNoBallot timeFits realBallot keptAt keptBallot keptStamp marksAt freshVolatile listedAt onlyBoxes
-all-examples = refl

@@ -8,8 +8,8 @@ use Rattle.laws.specs.Choice.{pick}
 use Rattle.laws.specs.Fold.{upto}
 use Rattle.house.specs.Pairs.{boxNo}
 use Rattle.house.specs.declared.BoxNo.{BoxNo}
-use Rattle.plans.specs.Plan.{boxesOf, homeOf, sameHome, names}
-use Rattle.plans.specs.declared.Plan.{Plan}
+use Rattle.house.specs.Plan.{boxesOf, homeOf, sameHome, names}
+use Rattle.house.specs.declared.Plan.{Plan}
 use Rattle.records.specs.Rec.{Rec}
 use Rattle.records.specs.Bytes.{encodeAll}
 use Rattle.records.specs.declared.Answer.the-variants.{Done, No}
@@ -18,6 +18,8 @@ use Rattle.boxes.specs.declared.BoxState.{BoxState}
 use Rattle.boxes.specs.declared.Delivery.{Delivery}
 use Rattle.boxes.specs.declared.Delivery.the-variants.{Nothing, Job}
 use Rattle.boxes.specs.declared.Outcome.{Outcome}
+use Rattle.records.specs.Answers.{notNamed, wrongStatus, wrongBallot, alreadyDone, atLimit, orNo}
+use Rattle.records.specs.declared.Answer.{Answer}
 
 pub data Out : Type 0 where
   refused : (n : ℕ) → Out
@@ -58,3 +60,12 @@ toHome P x f = toEach P (λ p. sameHome P p (ownOf x)) f
 -- to the other boxes of the own district
 abbrev pub toOthers : Plan → BoxState → (BoxNo → Rec) → List Rec
 toOthers P x f = toEach P (λ p. sameHome P p (ownOf x) && not (eqb (p .0) (ownOf x .0))) f
+
+-- the first of the tests 6 to 10 that fails
+abbrev pub inOrder : Bool → Bool → Bool → Bool → Bool → Answer
+inOrder a b c d e = orNo a notNamed (orNo b wrongStatus (orNo c wrongBallot (orNo d alreadyDone (orNo e atLimit Done))))
+
+-- a step under an answer
+abbrev pub under : Answer → Out → Out
+under Done o = o
+under (No n) o = refused n

@@ -9,11 +9,12 @@ use Rattle.laws.specs.Fold.{upto, allBelow}
 use Rattle.house.specs.Limits.{noJob}
 use Rattle.house.specs.Pairs.{stampLt}
 use Rattle.house.specs.declared.Stamp.{Stamp}
-use Rattle.plans.specs.declared.Plan.{Plan}
+use Rattle.house.specs.declared.Plan.{Plan}
 use Rattle.records.specs.Rec.{Rec, deliver}
 use Rattle.boxes.specs.Box.{ownOf, rowAt, sentAt, putSent}
-use Rattle.boxes.specs.Out.{toHome}
+use Rattle.boxes.specs.Out.{toHome, Out, does}
 use Rattle.boxes.specs.declared.BoxState.{BoxState}
+use Rattle.boxes.specs.declared.Delivery.the-variants.{Nothing}
 
 -- job j is open: proposed or accepted
 unfoldable pub isOpen : BoxState → ℕ → Bool
@@ -62,3 +63,7 @@ handTurns P x n = upto (λ h i. handNext P h) (record { box = x; sent = [] }) n
 
 abbrev pub handOut : Plan → BoxState → Handing
 handOut P x = handTurns P x (P .jobs)
+
+-- the box after handing out its ready jobs (lines 21-23)
+abbrev pub handing : Handing → Out
+handing h = does (h .box) (h .sent) Nothing

@@ -7,9 +7,9 @@ use Rattle.laws.specs.Fold.{allBelow, someBelow}
 use Rattle.house.specs.Limits.{mostDistricts, mostJobs}
 use Rattle.house.specs.Pairs.{district, stamp, stampLt, ballotLt, sameBallot, isNoStamp, isNoBallot, timeFits, stampOf, ballotOf}
 use Rattle.house.specs.declared.District.{District}
-use Rattle.plans.specs.Plan.{boxesOf, isBox, isJob, homeOf, names, ballotIn, noneOrIn, stampNamed, planSound}
-use Rattle.plans.specs.declared.Plan.{Plan}
-use Rattle.marks.specs.Marks.{marksIn}
+use Rattle.house.specs.Plan.{boxesOf, isBox, isJob, homeOf, names, ballotIn, noneOrIn, stampNamed, planSound}
+use Rattle.house.specs.declared.Plan.{Plan}
+use Rattle.house.specs.Marks.{marksIn}
 use Rattle.records.specs.Rec.{Ballotpaper, newleader-ack}
 use Rattle.records.specs.Rules.{rules, rowsSound, spareRows}
 use Rattle.boxes.specs.Box.{isLeader, isRecovering, homeIn, ownOf, sentAt, listedAt, keptBallot, keptStamp, marksAt}

@@ -3,8 +3,8 @@ use Prim.Native.Nat.{ℕ}
 use mathlib.Core.List.{List, []}
 use lib.Dec.{leb, eqb}
 use Rattle.house.specs.Limits.{leastTray}
-use Rattle.plans.specs.Plan.{isJob, planSound}
-use Rattle.plans.specs.declared.Plan.{Plan}
+use Rattle.house.specs.Plan.{isJob, planSound}
+use Rattle.house.specs.declared.Plan.{Plan}
 use Rattle.records.specs.Rec.{Rec, multicast, accept, accept-ack, deliver, newleader, newleader-ack, new-state, newstate-ack, unknown, meaning}
 use Rattle.records.specs.Answers.{notSound, smallTray, unreadable, brokenRule, otherBox, notNamed, answerOf, unless}
 use Rattle.records.specs.Bytes.{shaped, parse}
@@ -15,9 +15,18 @@ use Rattle.records.specs.declared.Record.{Record}
 use Rattle.boxes.specs.Box.{ownOf}
 use Rattle.boxes.specs.Sound.{sound}
 use Rattle.boxes.specs.Out.{Out, refused, does, guard}
-use Rattle.boxes.specs.Multicast.{onMulticast, onAccept, onAcceptAck, onDeliver}
-use Rattle.boxes.specs.Leaders.{onNewleader, onNewleaderAck, onNewState, onNewstateAck}
-use Rattle.boxes.specs.Orders.{posts, retry, stand, cut}
+use Rattle.boxes.specs.Multicast.{onMulticast}
+use Rattle.boxes.specs.Accept.{onAccept}
+use Rattle.boxes.specs.AcceptAck.{onAcceptAck}
+use Rattle.boxes.specs.Deliver.{onDeliver}
+use Rattle.boxes.specs.Newleader.{onNewleader}
+use Rattle.boxes.specs.NewleaderAck.{onNewleaderAck}
+use Rattle.boxes.specs.NewState.{onNewState}
+use Rattle.boxes.specs.NewstateAck.{onNewstateAck}
+use Rattle.boxes.specs.Post.{posts}
+use Rattle.boxes.specs.Retry.{retry}
+use Rattle.boxes.specs.Stand.{stand}
+use Rattle.boxes.specs.Cut.{cut}
 use Rattle.boxes.specs.declared.BoxState.{BoxState}
 use Rattle.boxes.specs.declared.Delivery.the-variants.{Nothing}
 

@@ -4,12 +4,12 @@ use mathlib.Core.List.{List, [], _++_}
 use Rattle.laws.specs.Choice.{pick}
 use Rattle.laws.specs.Tray.{allFor}
 use Rattle.house.specs.Limits.{mostJobs}
-use Rattle.plans.specs.Plan.{boxesOf, planSound}
-use Rattle.plans.specs.declared.Plan.{Plan}
-use Rattle.orders.specs.Night.{mostBoxes, boxIn}
-use Rattle.orders.specs.declared.Night.{Night}
+use Rattle.house.specs.Plan.{boxesOf, planSound}
+use Rattle.house.specs.declared.Plan.{Plan}
+use Rattle.rehearsal.specs.Night.{mostBoxes, boxIn}
+use Rattle.rehearsal.specs.declared.Night.{Night}
 use Rattle.report.specs.Report.{boxText, jobText, boxMost, jobMost}
-use Rattle.endings.specs.Endings.{jobsOf, shownOf, firstBelow, finished}
+use Rattle.closing.specs.Endings.{jobsOf, shownOf, firstBelow, finished}
 
 -- `box B list` and the jobs of its list
 unfoldable pub boxReport : Night → ℕ → List ℕ

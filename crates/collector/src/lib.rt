@@ -3,18 +3,18 @@
 ghost use mathlib.Core.Path.{_≡_};
 ghost use lib.ListN.{length};
 ghost use Rattle.boxes.specs.Sound.{sound};
-ghost use Rattle.boxes.specs.Orders.{retries};
+ghost use Rattle.boxes.specs.Retry.{retries};
 ghost use Rattle.boxes.specs.Step.{mayPost, retried, stood};
-ghost use Rattle.acting.specs.Orders.{standing};
+ghost use Rattle.steps.specs.Orders.{standing};
 ghost use Rattle.collector.specs.Face.{admission, refusal, unlessNo, Allowed, Numbering, Answering, Written};
 ghost use Rattle.collector.specs.Promises.{BoxFresh, BytesReceived, JobRetried, BoxStood, BoxCut, JobPosted};
 use boxes::BoxState;
 use boxes::Delivery;
 use boxes::Outcome;
 use house::BoxNo;
-use plans::Plan;
+use house::Plan;
 use records::Answer;
-use sends::Sent;
+use sending::Sent;
 
 // what a post answers: it has no box
 pub struct Posted {
@@ -60,7 +60,7 @@ fn refused(x: BoxState, n: u8) -> Outcome
 pub fn receive(plan: Plan, x: BoxState, bytes: &[u8], tray: &mut [u8]) -> Outcome
     ensures { λ o. ⌜ BytesReceived plan x (now (bytes .entry)) (now (tray .entry)) o (now (tray .exit)) ⌝ }
 {
-    let known = sound_boxes::is_sound(plan, x);
+    let known = soundness::is_sound(plan, x);
     let first = admit(known, tray.len());
     if let Answer::No(n) = first {
         return refused(x, n);
@@ -68,11 +68,11 @@ pub fn receive(plan: Plan, x: BoxState, bytes: &[u8], tray: &mut [u8]) -> Outcom
     let got = reader::read_bytes(plan, bytes);
     let read = got.answer;
     let r = got.rec;
-    let answer = acting::judge_read(plan, x, read, r);
+    let answer = steps::judge_read(plan, x, read, r);
     if let Answer::No(n) = answer {
         return refused(x, n);
     }
-    acting::act(plan, x, r, tray)
+    steps::act(plan, x, r, tray)
 }
 
 // the answer to a retry: 1, 2, then its own tests
@@ -84,7 +84,7 @@ fn judge_retry(plan: Plan, known: bool, x: BoxState, job: u8, room: usize) -> An
     if let Answer::No(n) = first {
         return Answer::No(n);
     }
-    delivering::decide_retry(plan, x, job)
+    jobs::decide_retry(plan, x, job)
 }
 
 // the records of a retry that is not refused
@@ -100,8 +100,8 @@ fn send_retry(plan: Plan, x: BoxState, job: u8, answer: Answer, tray: &mut [u8])
         Answer::Done => {
             let c = x.core;
             let own = c.own;
-            let r = drafting::multicast_record(own, own, job);
-            sends::send(tray, plan, r)
+            let r = sending::multicast_record(own, own, job);
+            sending::send(tray, plan, r)
         }
     }
 }
@@ -110,7 +110,7 @@ fn send_retry(plan: Plan, x: BoxState, job: u8, answer: Answer, tray: &mut [u8])
 pub fn retry_job(plan: Plan, x: BoxState, job: u8, tray: &mut [u8]) -> Outcome
     ensures { λ o. ⌜ JobRetried plan x job (now (tray .entry)) o (now (tray .exit)) ⌝ }
 {
-    let known = sound_boxes::is_sound(plan, x);
+    let known = soundness::is_sound(plan, x);
     let answer = judge_retry(plan, known, x, job, tray.len());
     let s = send_retry(plan, x, job, answer, tray);
     Outcome {
@@ -131,7 +131,7 @@ fn judge_stand(plan: Plan, known: bool, x: BoxState, room: usize) -> Answer
     if let Answer::No(n) = first {
         return Answer::No(n);
     }
-    leading::decide_stand(x)
+    leaders::decide_stand(x)
 }
 
 // the records of a box that stands and is not refused
@@ -147,8 +147,8 @@ fn send_stand(plan: Plan, x: BoxState, answer: Answer, tray: &mut [u8]) -> Sent
         Answer::Done => {
             let c = x.core;
             let own = c.own;
-            let r = leading::stand_record(x, own);
-            sends::send(tray, plan, r)
+            let r = sending::stand_record(x, own);
+            sending::send(tray, plan, r)
         }
     }
 }
@@ -157,7 +157,7 @@ fn send_stand(plan: Plan, x: BoxState, answer: Answer, tray: &mut [u8]) -> Sent
 pub fn stand_up(plan: Plan, x: BoxState, tray: &mut [u8]) -> Outcome
     ensures { λ o. ⌜ BoxStood plan x (now (tray .entry)) o (now (tray .exit)) ⌝ }
 {
-    let known = sound_boxes::is_sound(plan, x);
+    let known = soundness::is_sound(plan, x);
     let answer = judge_stand(plan, known, x, tray.len());
     let s = send_stand(plan, x, answer, tray);
     Outcome {
@@ -173,7 +173,7 @@ pub fn stand_up(plan: Plan, x: BoxState, tray: &mut [u8]) -> Outcome
 pub fn cut_off(plan: Plan, x: BoxState) -> Outcome
     ensures { λ o. ⌜ BoxCut plan x o ⌝ }
 {
-    if sound_boxes::is_sound(plan, x) {} else {
+    if soundness::is_sound(plan, x) {} else {
         return refused(x, records::NOT_SOUND);
     }
     let y = boxes::cut_box(x);
@@ -189,13 +189,13 @@ pub fn cut_off(plan: Plan, x: BoxState) -> Outcome
 fn may_post(plan: Plan, job: u8, room: usize) -> Answer
     ensures { λ a. ⌜ a ≡ mayPost plan job room ⌝ }
 {
-    if sound_plans::plan_sound(plan) {} else {
+    if house::plan_sound(plan) {} else {
         return Answer::No(records::NOT_SOUND);
     }
     if house::LEAST_TRAY <= room {} else {
         return Answer::No(records::SMALL_TRAY);
     }
-    if plans::is_job(plan, job) {} else {
+    if house::is_job(plan, job) {} else {
         return Answer::No(records::NOT_NAMED);
     }
     Answer::Done
@@ -213,9 +213,9 @@ pub fn post_job(plan: Plan, job: u8, tray: &mut [u8]) -> Posted
             records: 0,
         },
         Answer::Done => {
-            let office = plans::office_of(plan);
-            let r = drafting::multicast_record(office, office, job);
-            let s = sends::send(tray, plan, r);
+            let office = house::office_of(plan);
+            let r = sending::multicast_record(office, office, job);
+            let s = sending::send(tray, plan, r);
             Posted {
                 answer: Answer::Done,
                 used: s.used,

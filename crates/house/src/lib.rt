@@ -1,6 +1,43 @@
-// The house's types and the order of stamps and ballots. What each function means stands in specs/Pairs.antt.
-ghost use mathlib.Core.Path.{_≡_};
-ghost use Rattle.house.specs.Pairs.{noStamp, noBallot, noRow, stampLt, ballotLt, sameStamp, sameBallot, laterStamp, isNoStamp, isNoBallot, timeFits, realStamp, realBallot, stampOf, ballotOf};
+// Document 01, 'Numbers': stamps, ballots, rows, the plan, marks and quorums, and their limits.
+// The definitions stand in specs/: Limits, Pairs, Plan, Marks.
+mod marks;
+mod pairs;
+mod plans;
+mod sound_plans;
+
+pub use marks::has_mark;
+pub use marks::mark;
+pub use marks::marks_in;
+pub use marks::no_marks;
+pub use marks::only_boxes;
+pub use marks::quorum_each;
+pub use pairs::ballot_below;
+pub use pairs::ballot_of;
+pub use pairs::is_no_ballot;
+pub use pairs::is_no_stamp;
+pub use pairs::later_stamp;
+pub use pairs::no_ballot;
+pub use pairs::no_row;
+pub use pairs::no_stamp;
+pub use pairs::same_ballot;
+pub use pairs::same_stamp;
+pub use pairs::stamp_below;
+pub use pairs::stamp_of;
+pub use pairs::time_fits;
+pub use plans::ballot_in;
+pub use plans::boxes_of;
+pub use plans::home_of;
+pub use plans::is_box;
+pub use plans::is_job;
+pub use plans::is_office;
+pub use plans::named;
+pub use plans::none_or_in;
+pub use plans::office_of;
+pub use plans::quorum_of;
+pub use plans::same_home;
+pub use plans::size_of;
+pub use plans::stamp_named;
+pub use sound_plans::plan_sound;
 
 pub const MOST_DISTRICTS: u8 = 4;
 
@@ -36,109 +73,8 @@ pub struct Row {
     pub global: Stamp,
 }
 
-pub fn no_stamp() -> Stamp
-    ensures { λ r. ⌜ r ≡ noStamp ⌝ }
-{
-    Stamp {
-        time: 0,
-        district: District(0),
-    }
-}
-
-pub fn no_ballot() -> Ballot
-    ensures { λ r. ⌜ r ≡ noBallot ⌝ }
-{
-    Ballot {
-        number: 0,
-        owner: BoxNo(0),
-    }
-}
-
-pub fn no_row() -> Row
-    ensures { λ r. ⌜ r ≡ noRow ⌝ }
-{
-    let none = Stamp {
-        time: 0,
-        district: District(0),
-    };
-    Row {
-        phase: 0,
-        local: none,
-        global: none,
-    }
-}
-
-pub fn stamp_below(a: Stamp, b: Stamp) -> bool
-    ensures { λ r. ⌜ r ≡ stampLt a b ⌝ }
-{
-    (a.time < b.time) | ((a.time == b.time) & (a.district.0 < b.district.0))
-}
-
-pub fn ballot_below(a: Ballot, b: Ballot) -> bool
-    ensures { λ r. ⌜ r ≡ ballotLt a b ⌝ }
-{
-    (a.number < b.number) | ((a.number == b.number) & (a.owner.0 < b.owner.0))
-}
-
-pub fn same_stamp(a: Stamp, b: Stamp) -> bool
-    ensures { λ r. ⌜ r ≡ sameStamp a b ⌝ }
-{
-    (a.time == b.time) & (a.district.0 == b.district.0)
-}
-
-pub fn same_ballot(a: Ballot, b: Ballot) -> bool
-    ensures { λ r. ⌜ r ≡ sameBallot a b ⌝ }
-{
-    (a.number == b.number) & (a.owner.0 == b.owner.0)
-}
-
-// the larger of two stamps, the first if they are the same
-pub fn later_stamp(a: Stamp, b: Stamp) -> Stamp
-    ensures { λ r. ⌜ r ≡ laterStamp a b ⌝ }
-{
-    if stamp_below(a, b) { b } else { a }
-}
-
-pub fn is_no_stamp(s: Stamp) -> bool
-    ensures { λ r. ⌜ r ≡ isNoStamp s ⌝ }
-{
-    (s.time == 0) & (s.district.0 == 0)
-}
-
-pub fn is_no_ballot(b: Ballot) -> bool
-    ensures { λ r. ⌜ r ≡ isNoBallot b ⌝ }
-{
-    (b.number == 0) & (b.owner.0 == 0)
-}
-
-pub fn time_fits(t: u32) -> bool
-    ensures { λ r. ⌜ r ≡ timeFits t ⌝ }
-{
-    t <= MOST_TIME
-}
-
-pub fn real_stamp(s: Stamp) -> bool
-    ensures { λ r. ⌜ r ≡ realStamp s ⌝ }
-{
-    (1 <= s.time) & (s.time <= MOST_TIME)
-}
-
-pub fn real_ballot(b: Ballot) -> bool
-    ensures { λ r. ⌜ r ≡ realBallot b ⌝ }
-{
-    (1 <= b.number) & (b.number <= MOST_NUMBER)
-}
-
-// a real stamp of this district
-pub fn stamp_of(d: District, s: Stamp) -> bool
-    ensures { λ r. ⌜ r ≡ stampOf d s ⌝ }
-{
-    ((1 <= s.time) & (s.time <= MOST_TIME)) & (s.district.0 == d.0)
-}
-
-// a real ballot of this box
-pub fn ballot_of(p: BoxNo, b: Ballot) -> bool
-    ensures { λ r. ⌜ r ≡ ballotOf p b ⌝ }
-{
-    ((1 <= b.number) & (b.number <= MOST_NUMBER)) & (b.owner.0 == p.0)
+pub struct Plan {
+    pub districts: u8,
+    pub jobs: u8,
+    pub masks: [u8; 64],
 }

@@ -2,7 +2,6 @@
 pub mod Choice
 pub mod Fold
 pub mod Place
-pub mod Induction
 pub mod Lex
 pub mod Majority
 pub mod Digits

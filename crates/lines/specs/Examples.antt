@@ -1,16 +1,10 @@
 -- Lines that are read and lines that are not, as document 01 and docs/DECISIONS.md (62 to 72) name them, and a whole input.
 -- Each comment gives the line in plain text.
 use Prim.Native.Nat.{ℕ}
-use mathlib.Core.List.{List, [], _∷_, map}
-use mathlib.Core.Path.{_≡_, refl}
-use lib.ListN.{length, replicate}
-use Rattle.laws.specs.Choice.{pick}
-use Rattle.words.specs.Parts.{same, every, inFront, parts}
-use Rattle.words.specs.Numeral.{isNumber, valueOf}
-use Rattle.lines.specs.declared.Order.the-variants.{Districts, Job, Post, Stand, Retry, Cut, Carry, Unreadable}
-use Rattle.lines.specs.Orders.{oneNumber, orderOfWords, orderOfLine, ordersOf}
+use mathlib.Core.List.{List, [], _∷_}
+use lib.ListN.{replicate}
 
-abbrev readable : List (List ℕ)
+abbrev pub readable : List (List ℕ)
 readable =
     -- districts 5
     (100 ∷ 105 ∷ 115 ∷ 116 ∷ 114 ∷ 105 ∷ 99 ∷ 116 ∷ 115 ∷ 32 ∷ 53 ∷ []) ∷
@@ -32,12 +26,7 @@ readable =
     (114 ∷ 101 ∷ 116 ∷ 114 ∷ 121 ∷ 32 ∷ 57 ∷ 57 ∷ 57 ∷ 57 ∷ 57 ∷ 57 ∷ 57 ∷ 57 ∷ 57 ∷ 32 ∷ 48 ∷ 48 ∷ 48 ∷ 48 ∷ 48 ∷ 48 ∷ 48 ∷ 48 ∷ 49 ∷ []) ∷
     []
 
-pub readable-lines :
-    map orderOfLine readable ≡ Districts 5 ∷ Job 3 ∷ Post 0 ∷ Post 7 ∷ Stand 11 ∷ Cut 2 ∷ Carry 17 ∷ Retry 3 12 ∷ Retry 999999999 1 ∷ []
-unfolding oneNumber orderOfWords orderOfLine same every inFront parts isNumber valueOf pick
-readable-lines = refl
-
-abbrev unreadable : List (List ℕ)
+abbrev pub unreadable : List (List ℕ)
 unreadable =
     -- nothing
     ([]) ∷
@@ -78,14 +67,3 @@ unreadable =
     -- 32 spaces
     replicate 32 32 ∷
     []
-
-pub unreadable-lines : map orderOfLine unreadable ≡ replicate (length unreadable) Unreadable
-unfolding oneNumber orderOfWords orderOfLine same every inFront parts isNumber valueOf pick
-unreadable-lines = refl
-
--- `districts 1`, `job 1`, an empty line, `stand 0`, and `post 0` without LF
-pub whole-input :
-    ordersOf (100 ∷ 105 ∷ 115 ∷ 116 ∷ 114 ∷ 105 ∷ 99 ∷ 116 ∷ 115 ∷ 32 ∷ 49 ∷ 10 ∷ 106 ∷ 111 ∷ 98 ∷ 32 ∷ 49 ∷ 10 ∷ 10 ∷ 115 ∷ 116 ∷ 97 ∷ 110 ∷ 100 ∷ 32 ∷ 48 ∷ 10 ∷ 112 ∷ 111 ∷ 115 ∷ 116 ∷ 32 ∷ 48 ∷ [])
-    ≡ Districts 1 ∷ Job 1 ∷ Unreadable ∷ Stand 0 ∷ Post 0 ∷ []
-unfolding ordersOf oneNumber orderOfWords orderOfLine same every inFront parts isNumber valueOf pick
-whole-input = refl

@@ -7,8 +7,8 @@ use mathlib.Core.Path.{_≡_, refl, sym, _∙_, ap}
 use lib.Dec.{eqb}
 use borrow.Author.Tests.{eqb-true}
 use Rattle.laws.specs.Choice.{pick, pick-true, pick-false}
-use Rattle.words.specs.Parts.{lineFeed, every, without}
-use Rattle.words.specs.PartLaws.{without-on}
+use Rattle.lines.specs.Parts.{lineFeed, every, without}
+use Rattle.lines.specs.PartLaws.{without-on}
 use Rattle.lines.specs.declared.LineState.{LineState}
 use Rattle.lines.specs.declared.Order.{Order}
 use Rattle.lines.specs.Orders.{orderOfLine, ordersOf}
@@ -99,21 +99,3 @@ module _ {S : Type 0} (act : S → Order → S) where
   -- in whatever chunks the input comes, its orders are acted on
   pub orders-chunks : (s : S) (chunks : List (List ℕ)) → inputEnd (foldl allRead (start s) chunks) ≡ foldl act s (ordersOf (joined chunks))
   orders-chunks s chunks = ap inputEnd (any-chunks (start s) chunks) ∙ orders-read s (joined chunks)
-
--- the orders alone: each one that is read is put behind those before it
-abbrev pub Feed : Type 0
-Feed = Reading (List Order)
-
-abbrev pub noted : List Order → Order → List Order
-noted os o = os ++ (o ∷ [])
-
-abbrev pub pushByte : Feed → ℕ → Feed
-pushByte = byteRead noted
-
-noted-all : (os more : List Order) → foldl noted os more ≡ os ++ more
-noted-all os [] = sym (append-nil os)
-noted-all os (o ∷ more) = noted-all (noted os o) more ∙ append-assoc os (o ∷ []) more
-
--- the bytes of an input, one at a time, give the orders of its lines
-pub orders-fed : (input : List ℕ) → inputEnd noted (foldl pushByte (start []) input) ≡ ordersOf input
-orders-fed input = orders-read noted [] input ∙ noted-all [] (ordersOf input)

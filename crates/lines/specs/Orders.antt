@@ -6,8 +6,8 @@ use mathlib.Core.List.{List, [], _∷_, map}
 use lib.ListN.{length}
 use lib.Dec.{ltb}
 use Rattle.laws.specs.Choice.{pick}
-use Rattle.words.specs.Parts.{same, words, lines}
-use Rattle.words.specs.Numeral.{isNumber, valueOf}
+use Rattle.lines.specs.Parts.{same, words, lines}
+use Rattle.lines.specs.Numeral.{isNumber, valueOf}
 use Rattle.lines.specs.declared.Order.{Order}
 use Rattle.lines.specs.declared.Order.the-variants.{Districts, Job, Post, Stand, Retry, Cut, Carry, Unreadable}
 

@@ -3,16 +3,16 @@
 use Prim.Native.Nat.{ℕ}
 use mathlib.Core.Bool.{Bool, false, _&&_, _||_}
 use mathlib.Core.List.{List, [], _∷_, map}
-use mathlib.Core.Path.{_≡_, refl, sym, ap, _∙_}
+use mathlib.Core.Path.{_≡_}
 use lib.ListN.{length, take, replicate}
 use lib.Dec.{leb}
 use Rattle.laws.specs.Choice.{pick}
-use Rattle.words.specs.Parts.{same, words}
-use Rattle.words.specs.Numeral.{isNumber, valueOf}
+use Rattle.lines.specs.Parts.{same, words}
+use Rattle.lines.specs.Numeral.{isNumber, valueOf}
 use Rattle.lines.specs.declared.LineState.{LineState}
 use Rattle.lines.specs.declared.Order.{Order}
 use Rattle.lines.specs.declared.Order.the-variants.{Districts, Job, Post, Stand, Retry, Cut, Carry, Unreadable}
-use Rattle.lines.specs.Orders.{districts, job, post, stand, retry, cut, carry, longest, oneNumber}
+use Rattle.lines.specs.Orders.{districts, job, post, stand, retry, cut, carry, longest}
 use Rattle.lines.specs.Held.{pushed}
 
 -- ---- an order's word and numbers
@@ -38,26 +38,6 @@ orderNumbers (Retry b j) = b ∷ j ∷ []
 orderNumbers (Cut b) = b ∷ []
 orderNumbers (Carry k) = k ∷ []
 orderNumbers Unreadable = []
-
-abbrev orderAs : List ℕ → List ℕ → Order
-orderAs word [] = Unreadable
-orderAs word (n ∷ []) = oneNumber word n
-orderAs word (b ∷ j ∷ more) = Retry b j
-
-as-said : (o : Order) → orderAs (orderWord o) (orderNumbers o) ≡ o
-unfolding oneNumber same pick
-as-said (Districts g) = refl
-as-said (Job mask) = refl
-as-said (Post j) = refl
-as-said (Stand b) = refl
-as-said (Retry b j) = refl
-as-said (Cut b) = refl
-as-said (Carry k) = refl
-as-said Unreadable = refl
-
--- an order is its word and its numbers
-pub same-order : (o p : Order) → orderWord o ≡ orderWord p → orderNumbers o ≡ orderNumbers p → o ≡ p
-same-order o p w n = sym (as-said o) ∙ ap (λ (x : List ℕ). orderAs x (orderNumbers o)) w ∙ ap (orderAs (orderWord p)) n ∙ as-said p
 
 -- ---- the lines that can be read
 
@@ -106,20 +86,3 @@ pub record ByteHeld (s : LineState) (b : ℕ) (r : LineState) : Type 0 where
 -- `order_held`: the order of the bytes that have come
 abbrev pub HeldRead : LineState → Order → Type 0
 HeldRead s o = LineRead (take (s .len) (s .bytes)) o
-
--- ---- no second answer fits
-
-pub only-order : {line : List ℕ} {o p : Order} → LineRead line o → LineRead line p → o ≡ p
-only-order {o = o} {p = p} a b = same-order o p (a .word ∙ sym (b .word)) (a .numbers ∙ sym (b .numbers))
-
-line-state : (s r : LineState) → s .len ≡ r .len → s .bytes ≡ r .bytes → s ≡ r
-line-state s r n b = ap (λ (k : ℕ). record { len = k; bytes = s .bytes }) n ∙ ap (λ (l : List ℕ). record { len = r .len; bytes = l }) b
-
-pub only-nothing : {s r : LineState} → NothingHeld s → NothingHeld r → s ≡ r
-only-nothing {s = s} {r = r} a b = line-state s r (a .none ∙ sym (b .none)) (a .blank ∙ sym (b .blank))
-
-pub only-byte : {s : LineState} {b : ℕ} {r q : LineState} → ByteHeld s b r → ByteHeld s b q → r ≡ q
-only-byte {r = r} {q = q} x y = line-state r q (x .count ∙ sym (y .count)) (x .bytes ∙ sym (y .bytes))
-
-pub only-held : (s : LineState) {o p : Order} → HeldRead s o → HeldRead s p → o ≡ p
-only-held s a b = only-order a b

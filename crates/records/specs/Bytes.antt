@@ -7,7 +7,7 @@ use lib.Dec.{leb, eqb}
 use Rattle.laws.specs.Codec.{encRow, decRow}
 use Rattle.house.specs.Limits.{mostDistricts, mostJobs}
 use Rattle.house.specs.Pairs.{boxNo, noStamp, noBallot, noRow}
-use Rattle.plans.specs.declared.Plan.{Plan}
+use Rattle.house.specs.declared.Plan.{Plan}
 use Rattle.records.specs.Format.{known, ballotsIn, stampsIn, rowsIn}
 use Rattle.records.specs.Fields.{ballots, stamps, rows}
 use Rattle.records.specs.Rec.{Rec, carried}

@@ -5,7 +5,7 @@ use mathlib.Core.List.{List, [], _∷_}
 use lib.ListN.{getD}
 use lib.Dec.{leb, eqb}
 use Rattle.laws.specs.Choice.{pick}
-use Rattle.plans.specs.declared.Plan.{Plan}
+use Rattle.house.specs.declared.Plan.{Plan}
 
 -- a count that the plan decides: G ballots, J rows
 abbrev pub byPlan : ℕ

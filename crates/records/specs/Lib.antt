@@ -5,7 +5,7 @@ pub mod Rec
 pub mod Rules
 pub mod Fields
 pub mod Bytes
-pub mod Table
-pub mod Kinds
 pub mod Outcome
 pub mod Examples
+
+-- A record's bytes: its sections for any codec, how long they are, and what the test of its shape says.

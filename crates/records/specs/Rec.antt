@@ -1,7 +1,6 @@
 -- A record as a value, with one case a kind, and the struct that carries it in the code.
 use Prim.Native.Nat.{ℕ}
 use mathlib.Core.List.{List, [], _∷_}
-use mathlib.Core.Path.{_≡_, refl}
 use lib.ListN.{getD, replicate}
 use lib.Dec.{eqb}
 use Rattle.laws.specs.Choice.{pick}
@@ -97,19 +96,6 @@ meaning r =
     (pick (eqb (r .kind) 7) (new-state (r .from) (r .to) (record { ballot = ballotNo r 0; clock = stampNo r 0; table = r .table }))
     (pick (eqb (r .kind) 8) (newstate-ack (r .from) (r .to) (ballotNo r 0))
     unknown)))))))
-
--- a struct says what it carries
-pub meaning-carried : (r : Rec) → meaning (carried r) ≡ r
-unfolding meaning carried pick
-meaning-carried (multicast from to j) = refl
-meaning-carried (accept from to j y) = refl
-meaning-carried (accept-ack from to j bs) = refl
-meaning-carried (deliver from to j y) = refl
-meaning-carried (newleader from to b) = refl
-meaning-carried (newleader-ack from to y) = refl
-meaning-carried (new-state from to y) = refl
-meaning-carried (newstate-ack from to b) = refl
-meaning-carried unknown = refl
 
 -- the sender and the addressee
 unfoldable pub senderOf : Rec → BoxNo

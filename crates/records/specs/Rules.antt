@@ -13,8 +13,8 @@ use Rattle.house.specs.declared.Ballot.{Ballot}
 use Rattle.house.specs.declared.BoxNo.{BoxNo}
 use Rattle.house.specs.declared.District.{District}
 use Rattle.house.specs.declared.Row.{Row}
-use Rattle.plans.specs.Plan.{isBox, isOffice, isJob, homeOf, sameHome, names, ballotIn, noneOrIn, stampNamed}
-use Rattle.plans.specs.declared.Plan.{Plan}
+use Rattle.house.specs.Plan.{isBox, isOffice, isJob, homeOf, sameHome, names, ballotIn, noneOrIn, stampNamed}
+use Rattle.house.specs.declared.Plan.{Plan}
 use Rattle.records.specs.Format.{known, ballotsIn, stampsIn, rowsIn, hasJob}
 use Rattle.records.specs.Rec.{Rec, multicast, accept, accept-ack, deliver, newleader, newleader-ack, new-state, newstate-ack, unknown, meaning}
 use Rattle.records.specs.declared.Record.{Record}

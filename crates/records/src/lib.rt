@@ -1,12 +1,17 @@
-// The record as a struct, and the format's table. What each function means stands in specs/Format.antt and specs/Rec.antt.
-ghost use mathlib.Core.Path.{_≡_};
-ghost use Rattle.records.specs.Format.{known, entry, orPlan, ballotsIn, stampsIn, rowsIn, hasJob};
-ghost use Rattle.records.specs.Rec.{noRecord};
+// Document 01, 'Records' and 'Answers': the record as a struct, its format, its meaning, its rules, and the answers.
+// The definitions stand in specs/; a record is written by the room writer and read by the room reader.
+mod format;
+
+pub use format::ballots_in;
+pub use format::has_job;
+pub use format::is_known;
+pub use format::no_record;
+pub use format::rows_in;
+pub use format::stamps_in;
 use house::Ballot;
 use house::BoxNo;
 use house::Row;
 use house::Stamp;
-use plans::Plan;
 
 pub struct Record {
     pub kind: u8,
@@ -25,7 +30,6 @@ pub enum Answer {
 }
 
 // The numbers of the refusals, in the order of checking.
-
 // plan or box not sound
 pub const NOT_SOUND: u8 = 1;
 
@@ -72,123 +76,4 @@ pub struct Written {
 pub struct ReadOut {
     pub answer: Answer,
     pub rec: Record,
-}
-
-pub const MOST_KIND: u8 = 8;
-
-// a count that the plan decides
-const BY_PLAN: u8 = 255;
-
-// ballots, stamps, rows of each kind, and whether it has a job
-const FORMAT: [u8; 36] = [
-    // no kind 0
-    0,
-    0,
-    0,
-    0,
-    // 1 MULTICAST
-    0,
-    0,
-    0,
-    1,
-    // 2 ACCEPT
-    1,
-    1,
-    0,
-    1,
-    // 3 ACCEPT_ACK
-    BY_PLAN,
-    0,
-    0,
-    1,
-    // 4 DELIVER
-    1,
-    2,
-    0,
-    1,
-    // 5 NEWLEADER
-    1,
-    0,
-    0,
-    0,
-    // 6 NEWLEADER_ACK
-    2,
-    1,
-    BY_PLAN,
-    0,
-    // 7 NEW_STATE
-    1,
-    1,
-    BY_PLAN,
-    0,
-    // 8 NEWSTATE_ACK
-    1,
-    0,
-    0,
-    0,
-];
-
-pub fn is_known(kind: u8) -> bool
-    ensures { λ r. ⌜ r ≡ known kind ⌝ }
-{
-    (1 <= kind) & (kind <= MOST_KIND)
-}
-
-// an entry of the table, 0 beyond it
-fn entry_of(kind: u8, i: u8) -> u8
-    ensures { λ r. ⌜ r ≡ entry kind i ⌝ }
-{
-    let at = (kind as usize) * 4 + i as usize;
-    if 36 <= at {
-        return 0;
-    }
-    FORMAT[at]
-}
-
-// the plan's number where the table says so
-fn or_plan(n: u8, count: u8) -> u8
-    ensures { λ r. ⌜ r ≡ orPlan n count ⌝ }
-{
-    if count == BY_PLAN { n } else { count }
-}
-
-// how many ballots, stamps and rows a record of this kind has
-pub fn ballots_in(plan: Plan, kind: u8) -> u8
-    ensures { λ r. ⌜ r ≡ ballotsIn plan kind ⌝ }
-{
-    or_plan(plan.districts, entry_of(kind, 0))
-}
-
-pub fn stamps_in(kind: u8) -> u8
-    ensures { λ r. ⌜ r ≡ stampsIn kind ⌝ }
-{
-    entry_of(kind, 1)
-}
-
-pub fn rows_in(plan: Plan, kind: u8) -> u8
-    ensures { λ r. ⌜ r ≡ rowsIn plan kind ⌝ }
-{
-    or_plan(plan.jobs, entry_of(kind, 2))
-}
-
-pub fn has_job(kind: u8) -> bool
-    ensures { λ r. ⌜ r ≡ hasJob kind ⌝ }
-{
-    entry_of(kind, 3) == 1
-}
-
-// the struct that carries no record
-pub fn no_record() -> Record
-    ensures { λ r. ⌜ r ≡ noRecord ⌝ }
-{
-    let no_stamp = house::no_stamp();
-    Record {
-        kind: 0,
-        from: BoxNo(0),
-        to: BoxNo(0),
-        job: house::NO_JOB,
-        ballots: [house::no_ballot(); 4],
-        stamps: [no_stamp, no_stamp],
-        table: [house::no_row(); 64],
-    }
 }

@@ -1,8 +1,17 @@
 // The rehearse program: orders from standard input, an answer to each, and a report at the end.
 // What is fed, said and decided is proved; only the calls that read and write stay outside (crate printing, specs/Turns.antt, says what a run is).
-ghost use Rattle.printing.specs.Turns.{OneTurn, Ran};
-use printing::Next;
-use sessions::Session;
+mod printing;
+
+ghost use Rattle.rehearse.specs.Turns.{OneTurn, Ran};
+use session::Session;
+
+// what is done after a turn: read on, or the input has ended, or a call has failed
+pub enum Next {
+    More,
+    End,
+    ReadFailed,
+    WriteFailed,
+}
 
 // The session after some turns, and what comes next.
 struct Going {
@@ -14,11 +23,11 @@ struct Going {
 fn one_turn(s: Session, post: &mut [u8]) -> Going
     ensures { λ r. ⌜ OneTurn s (now (post .entry)) (r .session) (r .next) (now (post .exit)) ⌝ }
 {
-    let mut input = [0u8; sessions::CHUNK];
+    let mut input = [0u8; session::CHUNK];
     let got = libc::read(0, &mut input);
     let n = io::count(got, &input);
-    let mut out = [0u8; sessions::CHUNK_ROOM];
-    let f = sessions::feed_chunk(s, &input, n, post, &mut out);
+    let mut out = [0u8; session::CHUNK_ROOM];
+    let f = session::feed_chunk(s, &input, n, post, &mut out);
     let used = f.used;
     let written = io::write_all(1, &out[0..used]);
     let after = f.session;
@@ -60,7 +69,7 @@ fn end(s: Session, post: &mut [u8]) {
 
 fn main() {
     let mut post = [0u8; house::MOST_POST];
-    let g = all_turns(sessions::fresh_session(), &mut post);
+    let g = all_turns(session::fresh_session(), &mut post);
     let s = g.session;
     let next = g.next;
     match next {

@@ -8,17 +8,17 @@ use Rattle.house.specs.Pairs.{stampLt}
 use Rattle.house.specs.declared.Stamp.{Stamp}
 use Rattle.house.specs.declared.Ballot.{Ballot}
 use Rattle.house.specs.declared.BoxNo.{BoxNo}
-use Rattle.plans.specs.Plan.{boxesOf, homeOf, names}
-use Rattle.plans.specs.declared.Plan.{Plan}
+use Rattle.house.specs.Plan.{boxesOf, homeOf, names}
+use Rattle.house.specs.declared.Plan.{Plan}
 use Rattle.records.specs.Rec.{Rec}
 use Rattle.boxes.specs.Box.{listedAt}
 use Rattle.boxes.specs.Out.{does}
 use Rattle.boxes.specs.declared.BoxState.{BoxState}
 use Rattle.boxes.specs.declared.Delivery.{Delivery}
-use Rattle.demand3.specs.Words.{Rises, Once, SameOrder, ListBegins, Delivered}
-use Rattle.orders.specs.Night.{whose}
-use Rattle.orders.specs.declared.Order.{Order}
-use Rattle.nights.specs.Runs.{answered}
+use Rattle.in_order.specs.Words.{Rises, Once, SameOrder, ListBegins, Delivered}
+use Rattle.rehearsal.specs.Night.{whose}
+use Rattle.rehearsal.specs.declared.Order.{Order}
+use Rattle.rehearsed.specs.Runs.{answered}
 use Rattle.rehearsed.specs.Words.{afterwards, boxOn, Shows, FinalStamp, HandsOut, HandedBefore}
 
 pub record Demand3 (P : Plan) (lent : List ℕ) : Type 0 where

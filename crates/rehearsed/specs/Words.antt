@@ -6,15 +6,15 @@ use mathlib.Core.Path.{_≡_}
 use Rattle.house.specs.declared.Stamp.{Stamp}
 use Rattle.house.specs.declared.Ballot.{Ballot}
 use Rattle.house.specs.declared.BoxNo.{BoxNo}
-use Rattle.plans.specs.Plan.{boxesOf, homeOf}
-use Rattle.plans.specs.declared.Plan.{Plan}
+use Rattle.house.specs.Plan.{boxesOf, homeOf}
+use Rattle.house.specs.declared.Plan.{Plan}
 use Rattle.records.specs.Rec.{Rec, Handout, deliver}
 use Rattle.boxes.specs.Box.{rowAt}
 use Rattle.boxes.specs.declared.BoxState.{BoxState}
-use Rattle.posting.specs.Posting.{startOf}
-use Rattle.orders.specs.Night.{boxIn}
-use Rattle.orders.specs.declared.Order.{Order}
-use Rattle.nights.specs.Runs.{Stage, rehearsed, beginning, saidAt}
+use Rattle.post.specs.Posting.{startOf}
+use Rattle.rehearsal.specs.Night.{boxIn}
+use Rattle.rehearsal.specs.declared.Order.{Order}
+use Rattle.rehearsed.specs.Runs.{Stage, rehearsed, beginning, saidAt}
 
 -- the night and the post after a list of orders, from fresh boxes and a lent post of any bytes of which none is used
 abbrev pub afterwards : Plan → List ℕ → List Order → Stage

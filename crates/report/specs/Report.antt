@@ -6,8 +6,8 @@ use mathlib.Core.List.{List, [], _∷_, _++_}
 use lib.ListN.{getD}
 use Rattle.laws.specs.Choice.{pick}
 use Rattle.laws.specs.Tray.{allFor}
-use Rattle.words.specs.Parts.{space, lineFeed}
-use Rattle.texts.specs.Texts.{item}
+use Rattle.lines.specs.Parts.{space, lineFeed}
+use Rattle.report.specs.Texts.{item}
 
 -- a word and a number
 unfoldable pub titled : List ℕ → ℕ → List ℕ

@@ -1,78 +1,14 @@
-// The report at the end of the rehearse program: a line for each box and a line for each job.
-// Each writer writes over the front of a lent tray, answers how many bytes it wrote, and leaves the rest as it was.
-ghost use mathlib.Core.Path.{_≡_};
-ghost use Prim.Native.Nat.{_≤_};
-ghost use lib.ListN.{length};
-ghost use Rattle.laws.specs.Tray.{onto};
-ghost use Rattle.report.specs.Report.{titled, jobsText, listText, boxText, stampText, jobText, boxMost, jobMost};
-use house::BoxNo;
-use house::Stamp;
+// What the program writes: answers, and the lines of the closing report.
+// Their spelling stands in specs/Texts.antt and specs/Report.antt.
+mod ends;
+mod text;
+
+pub use ends::box_line;
+pub use ends::job_line;
+pub use text::answer_line;
+pub use text::put;
 
 // the room of a box's line and of a job's
 pub const BOX_ROOM: usize = 269;
 
 pub const JOB_ROOM: usize = 27;
-
-// A word of three bytes and a number.
-fn put_titled(word: &[u8; 3], n: u8, t: &mut [u8]) -> usize
-    requires { ⌜ 7 ≤ length (now t) ⌝ }
-    ensures { λ r. ⌜ (r ≤ 7) × (r ≡ length (titled (now (word .entry)) n)) × (now (t .exit) ≡ onto (titled (now (word .entry)) n) (now (t .entry))) ⌝ }
-{
-    let a = texts::put(word, t);
-    a + texts::put_item(n, &mut t[a..])
-}
-
-// The first `count` jobs of a list, a space before each.
-fn put_jobs(list: [u8; 64], count: usize, t: &mut [u8]) -> usize
-    requires { ⌜ (count ≤ 64) × (256 ≤ length (now t)) ⌝ }
-    ensures { λ r. ⌜ (r ≤ 256) × (r ≡ length (jobsText list count)) × (now (t .exit) ≡ onto (jobsText list count) (now (t .entry))) ⌝ }
-{
-    let mut used = 0;
-    for i in 0..count {
-        let more = texts::put_item(list[i], &mut t[used..]);
-        used += more;
-    }
-    used
-}
-
-// ` list`, the jobs, and the end of the line.
-fn put_list(list: [u8; 64], count: usize, t: &mut [u8]) -> usize
-    requires { ⌜ (count ≤ 64) × (262 ≤ length (now t)) ⌝ }
-    ensures { λ r. ⌜ (r ≤ 262) × (r ≡ length (listText list count)) × (now (t .exit) ≡ onto (listText list count) (now (t .entry))) ⌝ }
-{
-    let a = texts::put(b" list", t);
-    let b = a + put_jobs(list, count, &mut t[a..]);
-    b + texts::put(b"\n", &mut t[b..])
-}
-
-// `box B list` and the jobs of the list.
-pub fn box_line(number: BoxNo, list: [u8; 64], count: usize, t: &mut [u8]) -> usize
-    requires { ⌜ (count ≤ 64) × (boxMost ≤ length (now t)) ⌝ }
-    ensures { λ r. ⌜ (r ≤ boxMost) × (r ≡ length (boxText (number .0) list count)) × (now (t .exit) ≡ onto (boxText (number .0) list count) (now (t .entry))) ⌝ }
-{
-    let a = put_titled(b"box", number.0, t);
-    a + put_list(list, count, &mut t[a..])
-}
-
-// The time and the district of a stamp, or `- -` where there is none.
-fn put_stamp(committed: bool, stamp: Stamp, t: &mut [u8]) -> usize
-    requires { ⌜ 15 ≤ length (now t) ⌝ }
-    ensures { λ r. ⌜ (r ≤ 15) × (r ≡ length (stampText committed (stamp .time) (stamp .district .0))) × (now (t .exit) ≡ onto (stampText committed (stamp .time) (stamp .district .0)) (now (t .entry))) ⌝ }
-{
-    if committed {
-        let a = texts::put(b" ", t);
-        let b = a + texts::put_decimal(stamp.time, &mut t[a..]);
-        return b + texts::put_item(stamp.district.0, &mut t[b..]);
-    }
-    texts::put(b" - -", t)
-}
-
-// `job K TIME DISTRICT yes` or `no`.
-pub fn job_line(job: u8, committed: bool, stamp: Stamp, finished: bool, t: &mut [u8]) -> usize
-    requires { ⌜ jobMost ≤ length (now t) ⌝ }
-    ensures { λ r. ⌜ (r ≤ jobMost) × (r ≡ length (jobText job committed (stamp .time) (stamp .district .0) finished)) × (now (t .exit) ≡ onto (jobText job committed (stamp .time) (stamp .district .0) finished) (now (t .entry))) ⌝ }
-{
-    let a = put_titled(b"job", job, t);
-    let b = a + put_stamp(committed, stamp, &mut t[a..]);
-    b + texts::put_either(finished, b" yes\n", b" no\n", &mut t[b..])
-}

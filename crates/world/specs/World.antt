@@ -7,13 +7,13 @@ use lib.Dec.{ltb}
 use Rattle.laws.specs.Fold.{upto}
 use Rattle.house.specs.Limits.{leastTray}
 use Rattle.house.specs.Pairs.{boxNo}
-use Rattle.plans.specs.Plan.{boxesOf, isJob, planSound}
-use Rattle.plans.specs.declared.Plan.{Plan}
+use Rattle.house.specs.Plan.{boxesOf, isJob, planSound}
+use Rattle.house.specs.declared.Plan.{Plan}
 use Rattle.records.specs.Answers.{notSound, noSuch}
 use Rattle.records.specs.Rec.{Rec, unknown, carried, addresseeOf}
 use Rattle.boxes.specs.Box.{fresh}
 use Rattle.boxes.specs.Out.{Out, refused, does, guard}
-use Rattle.boxes.specs.Orders.{posts}
+use Rattle.boxes.specs.Post.{posts}
 use Rattle.boxes.specs.Step.{takes, retried, stood, cutOff}
 use Rattle.boxes.specs.declared.BoxState.{BoxState}
 use Rattle.boxes.specs.declared.Delivery.the-variants.{Nothing}

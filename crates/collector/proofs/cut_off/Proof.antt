@@ -1,8 +1,8 @@
 -- `collector::cut_off` meets its contract.
-use Rattle.sends.specs.Sends.{encode-none}
+use Rattle.sending.proofs.laws.Sends.{encode-none}
 use Rattle.boxes.specs.Out.{guard}
 use Rattle.boxes.specs.Step.{cutOff}
-use Rattle.boxes.specs.Promise.{says-result}
+use Rattle.boxes.proofs.laws.Promise.{says-result}
 use mathlib.Core.Path.{sym, _∙_}
 use borrow.Author.Needs.{needs}
 use Rattle.collector.proofs.cut_off.Statement.{statement}

@@ -1,5 +1,5 @@
 -- `collector::judge_retry` meets its contract.
-use Rattle.collector.specs.Face.{retry-no, retry-on}
+use Rattle.collector.proofs.laws.Face.{retry-no, retry-on}
 use mathlib.Core.Path.{sym, _∙_}
 use borrow.Author.Needs.{needs}
 use Rattle.collector.proofs.judge_retry.Statement.{statement}

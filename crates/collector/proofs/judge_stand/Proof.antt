@@ -1,7 +1,7 @@
 -- `collector::judge_stand` meets its contract.
-use Rattle.collector.specs.Face.{stand-no, stand-on}
-use Rattle.leading.specs.Room.{stand-room}
-use Rattle.laws.specs.Choice.{never}
+use Rattle.collector.proofs.laws.Face.{stand-no, stand-on}
+use Rattle.leaders.proofs.laws.Room.{stand-room}
+use Rattle.laws.proofs.laws.Choice.{never}
 use Rattle.records.specs.Answers.{isDone}
 use mathlib.Core.Path.{refl, sym, ap, _∙_}
 use borrow.Author.Needs.{needs}

@@ -1,7 +1,8 @@
 -- `collector::receive` meets its contract.
-use Rattle.collector.specs.Face.{two-go, refusing, receives-refused}
-use Rattle.acting.specs.Judging.{Judging, sound-plan}
-use Rattle.boxes.specs.Promise.{stepped}
+use Rattle.collector.proofs.laws.Face.{two-go, refusing, receives-refused}
+use Rattle.steps.specs.Judging.{Judging}
+use Rattle.steps.proofs.laws.Judging.{sound-plan}
+use Rattle.boxes.proofs.laws.Promise.{stepped}
 use Rattle.boxes.specs.Sound.{sound}
 use Rattle.house.specs.Limits.{leastTray}
 use Prim.Native.Nat.{_≤_}

@@ -1,5 +1,5 @@
 -- `collector::retry_job` meets its contract.
-use Rattle.collector.specs.Face.{ordered}
+use Rattle.collector.proofs.laws.Face.{ordered}
 use borrow.Author.Needs.{needs}
 use Rattle.collector.proofs.retry_job.Statement.{statement}
 use Rattle.collector.proofs.retry_job.Tie as tie

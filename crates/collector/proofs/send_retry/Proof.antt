@@ -1,8 +1,8 @@
 -- `collector::send_retry` meets its contract.
-use Rattle.collector.specs.Face.{none-written, all-written, retries-fit}
-use Rattle.acting.specs.Orders.{retries-sent}
-use Rattle.sends.specs.Sends.{Sends}
-use Rattle.boxes.specs.Orders.{retries}
+use Rattle.collector.proofs.laws.Face.{none-written, all-written, retries-fit}
+use Rattle.steps.proofs.laws.Orders.{retries-sent}
+use Rattle.sending.specs.Sends.{Sends}
+use Rattle.boxes.specs.Retry.{retries}
 use native.Mathlib.Omega.{arith}
 use borrow.Author.Needs.{needs}
 use Rattle.collector.proofs.send_retry.Statement.{statement}

@@ -1,7 +1,8 @@
 -- `collector::send_stand` meets its contract.
-use Rattle.collector.specs.Face.{none-written, all-written, standing-fits}
-use Rattle.acting.specs.Orders.{standing, standing-sent}
-use Rattle.sends.specs.Sends.{Sends}
+use Rattle.collector.proofs.laws.Face.{none-written, all-written, standing-fits}
+use Rattle.steps.specs.Orders.{standing}
+use Rattle.steps.proofs.laws.Orders.{standing-sent}
+use Rattle.sending.specs.Sends.{Sends}
 use native.Mathlib.Omega.{arith}
 use borrow.Author.Needs.{needs}
 use Rattle.collector.proofs.send_stand.Statement.{statement}

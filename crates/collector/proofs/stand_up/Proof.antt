@@ -1,5 +1,5 @@
 -- `collector::stand_up` meets its contract.
-use Rattle.collector.specs.Face.{ordered}
+use Rattle.collector.proofs.laws.Face.{ordered}
 use borrow.Author.Needs.{needs}
 use Rattle.collector.proofs.stand_up.Statement.{statement}
 use Rattle.collector.proofs.stand_up.Tie as tie

@@ -1,5 +1,5 @@
 -- `rehearse::end` meets its contract.
-use Rattle.printing.specs.Laws.{text-fits}
+use Rattle.rehearse.proofs.laws.Laws.{text-fits}
 use borrow.Author.Needs.{needs}
 use Rattle.rehearse.proofs.end.Statement.{statement}
 use Rattle.rehearse.proofs.end.Tie as tie

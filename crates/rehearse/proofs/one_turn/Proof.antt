@@ -1,8 +1,8 @@
 -- `rehearse::one_turn` meets its contract.
-use Rattle.printing.specs.Laws.{text-fits}
-use Rattle.sessions.specs.declared.Fed.{Fed}
-use Rattle.answering.specs.World.{World}
-use Rattle.sessions.specs.Session.{sessionOf, chunkOf}
+use Rattle.rehearse.proofs.laws.Laws.{text-fits}
+use Rattle.session.specs.declared.feed.Fed.{Fed}
+use Rattle.session.specs.World.{World}
+use Rattle.session.specs.Session.{sessionOf, chunkOf}
 use Rattle.lines.specs.Feed.{Reading}
 use Prim.Native.Nat.{ℕ}
 use lib.ListN.{take}

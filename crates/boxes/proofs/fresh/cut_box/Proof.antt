@@ -1,0 +1,15 @@
+-- `boxes::fresh::cut_box` meets its contract.
+use Rattle.boxes.specs.Cut.{cut}
+use borrow.Author.Needs.{needs}
+use Rattle.boxes.proofs.fresh.cut_box.Statement.{statement}
+use Rattle.boxes.proofs.fresh.cut_box.Tie as tie
+
+fresh-volatile-requires : tie.Need-fresh-volatile-requires
+fresh-volatile-requires c κs = search needs
+
+returns : tie.Need-returns
+unfolding cut
+returns c = rw (c .fresh-volatile .ensures)
+
+pub cut-box-spec : {M : Type 1} → statement M
+cut-box-spec = tie.close (tie.spec fresh-volatile-requires returns)

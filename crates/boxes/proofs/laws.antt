@@ -1,0 +1,6 @@
+-- The laws of boxes.
+pub mod Answers
+pub mod Promise
+pub mod Examples
+pub mod Long
+pub mod Ends

@@ -1,0 +1,26 @@
+-- `boxes::look::in_order` meets its contract.
+use borrow.Author.Needs.{needs}
+use Rattle.boxes.proofs.look.in_order.Statement.{statement}
+use Rattle.boxes.proofs.look.in_order.Tie as tie
+
+returns : tie.Need-returns
+returns c = rw (c .if1 .left)
+
+returns-2 : tie.Need-returns-2
+returns-2 c = rw (c .before .if1 .taken, c .if2 .left)
+
+returns-3 : tie.Need-returns-3
+returns-3 c = rw (c .before .before .if1 .taken, c .before .if2 .taken, c .if3 .left)
+
+returns-4 : tie.Need-returns-4
+returns-4 c = rw (c .before .before .before .if1 .taken, c .before .before .if2 .taken, c .before .if3 .taken, c .if4 .left)
+
+returns-5 : tie.Need-returns-5
+returns-5 c =
+    rw (c .before .before .before .before .if1 .taken, c .before .before .before .if2 .taken, c .before .before .if3 .taken, c .before .if4 .taken, c .if5 .left)
+
+returns-6 : tie.Need-returns-6
+returns-6 c = search needs
+
+pub in-order-spec : {M : Type 1} → statement M
+in-order-spec = tie.close (tie.spec returns returns-2 returns-3 returns-4 returns-5 returns-6)

@@ -1,0 +1,75 @@
+-- `closing::endings::with_box` meets its contract.
+use Rattle.closing.proofs.laws.Ends.{Heard, heard-none, heard-step, heard-all}
+use Rattle.house.specs.Limits.{mostJobs}
+use Prim.Native.Nat.{ℕ, _-_, _≤_}
+use native.Mathlib.Omega.{arith}
+use mathlib.Core.Path.{_≡_, subst}
+use borrow.Author.Needs.{needs}
+use Rattle.closing.proofs.endings.with_box.Statement.{statement}
+use Rattle.closing.proofs.endings.with_box.Tie as tie
+
+abbrev Inv-loop : tie.InvT-loop
+Inv-loop p x out₀ j₀ out j = (j ≤ mostJobs) × Heard p x out₀ j out
+
+abbrev μ-loop : tie.MeasureT-loop
+μ-loop p x out₀ j₀ out j = mostJobs - j
+
+loop-holds : tie.Need-loop-holds Inv-loop μ-loop
+loop-holds c =
+    let a = c .args in
+    (search needs, heard-none (a .p) (a .x) (a .ends) (search needs))
+
+cast-at : tie.Need-cast-at Inv-loop μ-loop
+cast-at c = search needs
+
+mul-end : tie.Need-mul-end Inv-loop μ-loop
+mul-end c = search needs
+
+array-copy-out-end : tie.Need-array-copy-out-end Inv-loop μ-loop
+array-copy-out-end c = search needs
+
+end-with-requires : tie.Need-end-with-requires Inv-loop μ-loop
+end-with-requires c κs = search needs
+
+mul-out : tie.Need-mul-out Inv-loop μ-loop
+mul-out c = search needs
+
+array-set-from-out : tie.Need-array-set-from-out Inv-loop μ-loop
+array-set-from-out c = search needs
+
+add-j : tie.Need-add-j Inv-loop μ-loop
+add-j c = search needs
+
+loop-less : tie.Need-loop-less Inv-loop μ-loop
+loop-less c = search needs
+
+loop-again : tie.Need-loop-again Inv-loop μ-loop
+loop-again c =
+    let a = c .before .before .before .before .args in
+    let l = c .before .before .before .loop in
+    (omega arith, rw (c .end-with .ensures) (heard-step (a .p) (a .x) (a .ends) (l .j) (l .out) (search needs) (l .inv .1)))
+
+returns : tie.Need-returns Inv-loop μ-loop
+returns c =
+    let a = c .before .before .args in
+    let l = c .before .loop in
+    let e : l .j ≡ mostJobs = omega arith in
+    heard-all (a .p) (a .x) (a .ends) (l .out) (subst (λ (i : ℕ). Heard (a .p) (a .x) (a .ends) i (l .out)) e (l .inv .1))
+
+pub with-box-spec : {M : Type 1} → statement M
+with-box-spec =
+    tie.close
+    (tie.spec
+    Inv-loop
+    μ-loop
+    loop-holds
+    cast-at
+    mul-end
+    array-copy-out-end
+    end-with-requires
+    mul-out
+    array-set-from-out
+    add-j
+    loop-less
+    loop-again
+    returns)

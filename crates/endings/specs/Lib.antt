@@ -1,6 +1,0 @@
--- What the report at the end says of a night, in two ways: as the code finds it, and as document 01 puts it.
-pub mod Endings
-pub mod Ends
-pub mod Holders
-pub mod Laws
-pub mod Says

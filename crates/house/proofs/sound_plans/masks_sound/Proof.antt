@@ -1,0 +1,60 @@
+-- `house::sound_plans::masks_sound` meets its contract.
+use Rattle.house.specs.Plan.{masksSound, maskSound}
+use Rattle.laws.specs.Fold.{allBelow}
+use Rattle.laws.proofs.laws.Fold.{all-step}
+use lib.ListN.{getD}
+use native.Mathlib.Omega.{arith}
+use mathlib.Core.Path.{_≡_, refl, ap, _∙_}
+use Prim.Native.Nat.{ℕ, _-_, _≤_}
+use borrow.Author.Needs.{needs}
+use Rattle.house.proofs.sound_plans.masks_sound.Statement.{statement}
+use Rattle.house.proofs.sound_plans.masks_sound.Tie as tie
+
+abbrev Inv-loop : tie.InvT-loop
+Inv-loop plan n masks ok₀ j₀ ok j = (j ≤ n) × (ok ≡ masksSound plan j)
+
+abbrev μ-loop : tie.MeasureT-loop
+μ-loop plan n masks ok₀ j₀ ok j = n - j
+
+loop-holds : tie.Need-loop-holds Inv-loop μ-loop
+unfolding masksSound allBelow
+loop-holds c = (search needs, refl)
+
+cast-at : tie.Need-cast-at Inv-loop μ-loop
+cast-at c = search needs
+
+array-read-mask-sound : tie.Need-array-read-mask-sound Inv-loop μ-loop
+array-read-mask-sound c = search needs
+
+mask-sound-requires : tie.Need-mask-sound-requires Inv-loop μ-loop
+mask-sound-requires c κs = search needs
+
+add-j : tie.Need-add-j Inv-loop μ-loop
+add-j c = search needs
+
+loop-less : tie.Need-loop-less Inv-loop μ-loop
+loop-less c = search needs
+
+loop-again : tie.Need-loop-again Inv-loop μ-loop
+unfolding masksSound
+loop-again c =
+    let a = c .before .before .before .before .args in let l = c .before .before .loop in
+    (omega arith, rw (l .inv .1, c .mask-sound .ensures) (all-step (λ (j : ℕ). maskSound (a .plan .districts) (getD (a .plan .masks) j 0)) (l .j)))
+
+returns : tie.Need-returns Inv-loop μ-loop
+returns c = let a = c .before .before .before .args in let l = c .before .loop in let e : l .j ≡ a .n = omega arith in l .inv .1 ∙ ap (masksSound (a .plan)) e
+
+pub masks-sound-spec : {M : Type 1} → statement M
+masks-sound-spec =
+    tie.close
+    (tie.spec
+    Inv-loop
+    μ-loop
+    loop-holds
+    cast-at
+    array-read-mask-sound
+    mask-sound-requires
+    add-j
+    loop-less
+    loop-again
+    returns)

@@ -1,0 +1,48 @@
+-- Marks: a set of boxes as one number, box p at digit p. A quorum is counted by the ones among a district's digits.
+use Prim.Native.Nat.{ℕ, _*_, _^_}
+use mathlib.Core.Bool.{Bool, not, _||_}
+use lib.Count.{ones}
+use lib.Dec.{leb, ltb}
+use Rattle.laws.specs.Choice.{pick}
+use Rattle.laws.specs.Fold.{allBelow}
+use Rattle.laws.specs.Digits.{digit, part, withDigit}
+use Rattle.house.specs.Pairs.{district}
+use Rattle.house.specs.declared.District.{District}
+use Rattle.house.specs.declared.BoxNo.{BoxNo}
+use Rattle.house.specs.Plan.{sizeOf, quorumOf, boxesOf, names}
+use Rattle.house.specs.declared.Plan.{Plan}
+
+-- no box is marked
+abbrev pub noMarks : ℕ
+noMarks = 0
+
+-- marks are numbers of 32 digits; a number beyond is no box
+abbrev pub mostMarks : ℕ
+mostMarks = 32
+
+-- box p is marked
+unfoldable pub hasMark : ℕ → BoxNo → Bool
+hasMark m p = digit m (p .0)
+
+-- the marks with box p marked
+unfoldable pub marked : ℕ → BoxNo → ℕ
+marked m p = pick (ltb (p .0) mostMarks) (withDigit m (p .0)) m
+
+-- the marks of district d alone
+unfoldable pub marksIn : Plan → ℕ → District → ℕ
+marksIn P m d = part m (d .0 * sizeOf P) (sizeOf P)
+
+-- no number beyond the plan's boxes is marked
+unfoldable pub onlyBoxes : Plan → ℕ → Bool
+onlyBoxes P m = ltb m (2 ^ boxesOf P)
+
+-- as many boxes of district d are marked as a quorum has
+unfoldable pub quorumIn : Plan → ℕ → District → Bool
+quorumIn P m d = leb (quorumOf P) (ones (marksIn P m d))
+
+-- a quorum in every district below n that job j names
+unfoldable pub quorumBelow : Plan → ℕ → ℕ → ℕ → Bool
+quorumBelow P j m n = allBelow (λ d. not (names P j (district d)) || quorumIn P m (district d)) n
+
+unfoldable pub quorumEach : Plan → ℕ → ℕ → Bool
+quorumEach P j m = quorumBelow P j m (P .districts)

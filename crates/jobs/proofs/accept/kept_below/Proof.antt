@@ -1,0 +1,68 @@
+-- `jobs::accept::kept_below` meets its contract.
+use Prim.Native.Nat.{ℕ, _-_, _≤_}
+use mathlib.Core.Path.{_≡_, refl, ap, _∙_}
+use native.Mathlib.Omega.{arith}
+use mathlib.Core.Bool.{not, _||_}
+use Rattle.laws.specs.Fold.{allBelow}
+use Rattle.laws.proofs.laws.Fold.{all-step}
+use Rattle.house.specs.Pairs.{district, isNoBallot}
+use Rattle.house.specs.Plan.{names}
+use Rattle.boxes.specs.Box.{keptBallot}
+use Rattle.boxes.specs.Accept.{keptBelow}
+use borrow.Author.Needs.{needs}
+use Rattle.jobs.proofs.accept.kept_below.Statement.{statement}
+use Rattle.jobs.proofs.accept.kept_below.Tie as tie
+
+abbrev Inv-loop : tie.InvT-loop
+Inv-loop plan x job n ok₀ d₀ ok d = (d ≤ n) × (ok ≡ keptBelow plan x job d)
+
+abbrev μ-loop : tie.MeasureT-loop
+μ-loop plan x job n ok₀ d₀ ok d = n - d
+
+loop-holds : tie.Need-loop-holds Inv-loop μ-loop
+unfolding keptBelow allBelow
+loop-holds c = (search needs, refl)
+
+kept-ballot-requires : tie.Need-kept-ballot-requires Inv-loop μ-loop
+kept-ballot-requires c κs = search needs
+
+named-requires : tie.Need-named-requires Inv-loop μ-loop
+named-requires c κs = search needs
+
+is-no-ballot-requires : tie.Need-is-no-ballot-requires Inv-loop μ-loop
+is-no-ballot-requires c κs = search needs
+
+add-d : tie.Need-add-d Inv-loop μ-loop
+add-d c = search needs
+
+loop-less : tie.Need-loop-less Inv-loop μ-loop
+loop-less c = search needs
+
+loop-again : tie.Need-loop-again Inv-loop μ-loop
+unfolding keptBelow
+loop-again c =
+    let a = c .before .before .before .before .before .args in let l = c .before .before .before .before .loop in (
+      omega arith,
+      rw (l .inv .1, c .is-no-ballot .ensures, c .before .named .ensures, c .before .before .kept-ballot .ensures)
+          (all-step (λ (e : ℕ). not (names (a .plan) (a .job) (district e)) || not (isNoBallot (keptBallot (a .x) (a .job) (district e)))) (l .d)),
+    )
+
+returns : tie.Need-returns Inv-loop μ-loop
+returns c =
+    let a = c .before .before .args in let l = c .before .loop in let e : l .d ≡ a .n = omega arith in
+    l .inv .1 ∙ ap (keptBelow (a .plan) (a .x) (a .job)) e
+
+pub kept-below-spec : {M : Type 1} → statement M
+kept-below-spec =
+    tie.close
+    (tie.spec
+    Inv-loop
+    μ-loop
+    loop-holds
+    kept-ballot-requires
+    named-requires
+    is-no-ballot-requires
+    add-d
+    loop-less
+    loop-again
+    returns)

@@ -1,0 +1,64 @@
+-- `jobs::accept::latest_kept` meets its contract.
+use Prim.Native.Nat.{ℕ, _-_, _≤_}
+use mathlib.Core.Path.{_≡_, ap, _∙_}
+use native.Mathlib.Omega.{arith}
+use Rattle.laws.proofs.laws.Fold.{upto-step}
+use Rattle.laws.specs.Choice.{pick}
+use Rattle.house.specs.declared.Stamp.{Stamp}
+use Rattle.house.specs.Pairs.{district, noStamp, laterStamp}
+use Rattle.house.specs.Plan.{names}
+use Rattle.boxes.specs.Box.{keptStamp}
+use Rattle.boxes.specs.Accept.{latestKept}
+use borrow.Author.Needs.{needs}
+use Rattle.jobs.proofs.accept.latest_kept.Statement.{statement}
+use Rattle.jobs.proofs.accept.latest_kept.Tie as tie
+
+abbrev Inv-loop : tie.InvT-loop
+Inv-loop plan x job n s₀ d₀ s d = (d ≤ n) × (s ≡ latestKept plan x job d)
+
+abbrev μ-loop : tie.MeasureT-loop
+μ-loop plan x job n s₀ d₀ s d = n - d
+
+no-stamp-requires : tie.Need-no-stamp-requires Inv-loop μ-loop
+no-stamp-requires c κs = search needs
+
+loop-holds : tie.Need-loop-holds Inv-loop μ-loop
+unfolding latestKept
+loop-holds c = (search needs, c .no-stamp .ensures)
+
+later-kept-requires : tie.Need-later-kept-requires Inv-loop μ-loop
+later-kept-requires c κs = search needs
+
+add-d : tie.Need-add-d Inv-loop μ-loop
+add-d c = search needs
+
+loop-less : tie.Need-loop-less Inv-loop μ-loop
+loop-less c = search needs
+
+loop-again : tie.Need-loop-again Inv-loop μ-loop
+unfolding latestKept
+loop-again c =
+    let a = c .before .before .before .before .args in let l = c .before .before .loop in (
+      omega arith,
+      c .later-kept .ensures
+          ∙ rw (l .inv .1) (upto-step (λ (s : Stamp) (e : ℕ). pick (names (a .plan) (a .job) (district e)) (laterStamp s (keptStamp (a .x) (a .job) (district e))) s) noStamp (l .d)),
+    )
+
+returns : tie.Need-returns Inv-loop μ-loop
+returns c =
+    let a = c .before .before .before .args in let l = c .before .loop in let e : l .d ≡ a .n = omega arith in
+    l .inv .1 ∙ ap (latestKept (a .plan) (a .x) (a .job)) e
+
+pub latest-kept-spec : {M : Type 1} → statement M
+latest-kept-spec =
+    tie.close
+    (tie.spec
+    Inv-loop
+    μ-loop
+    no-stamp-requires
+    loop-holds
+    later-kept-requires
+    add-d
+    loop-less
+    loop-again
+    returns)

@@ -1,0 +1,18 @@
+-- `jobs::accept::raise` meets its contract.
+use mathlib.Core.Path.{sym}
+use borrow.Author.Tests.{lt-ltb, le-ltb}
+use Rattle.laws.specs.Choice.{pick-true, pick-false}
+use Rattle.boxes.specs.Box.{raised}
+use Rattle.jobs.proofs.accept.raise.Statement.{statement}
+use Rattle.jobs.proofs.accept.raise.Tie as tie
+
+returns : tie.Need-returns
+unfolding raised
+returns c = sym (pick-true _ _ (lt-ltb _ _ (c .if1 .taken)))
+
+returns-2 : tie.Need-returns-2
+unfolding raised
+returns-2 c = sym (pick-false _ _ (le-ltb _ _ (c .if1 .left)))
+
+pub raise-spec : {M : Type 1} → statement M
+raise-spec = tie.close (tie.spec returns returns-2)

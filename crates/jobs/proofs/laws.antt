@@ -1,0 +1,2 @@
+-- The laws of jobs.
+pub mod Steps

@@ -1,2 +1,0 @@
--- The records of a vote that makes a quorum, as the code sends them.
-pub mod Voted

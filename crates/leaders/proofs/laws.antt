@@ -1,0 +1,4 @@
+-- The laws of leaders.
+pub mod Votes
+pub mod Room
+pub mod Voted

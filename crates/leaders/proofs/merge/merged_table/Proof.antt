@@ -1,0 +1,89 @@
+-- `leaders::merge::merged_table` meets its contract.
+use mathlib.Core.Path.{_≡_, refl, _∙_, ap}
+use Rattle.leaders.proofs.laws.Votes.{table-step}
+use Rattle.boxes.specs.Merge.{mergedTable, voteRow}
+use Rattle.boxes.specs.declared.Vote.{Vote}
+use mathlib.Core.List.{[], _∷_}
+use lib.ListN.{replicate}
+use native.Mathlib.Omega.{arith}
+use Prim.Native.Nat.{_≤_, _-_}
+use borrow.Author.Needs.{needs}
+use Rattle.leaders.proofs.merge.merged_table.Statement.{statement}
+use Rattle.leaders.proofs.merge.merged_table.Tie as tie
+
+abbrev Inv-loop : tie.InvT-loop
+Inv-loop jobs one two rows others n table₀ j₀ table j =
+    (j ≤ n)
+    × ((u v : Vote) → u .cballot ≡ one → u .table ≡ rows → v .cballot ≡ two → v .table ≡ others → table ≡ mergedTable (u ∷ v ∷ []) j)
+
+abbrev μ-loop : tie.MeasureT-loop
+μ-loop jobs one two rows others n table₀ j₀ table j = n - j
+
+no-row-requires : tie.Need-no-row-requires Inv-loop μ-loop
+no-row-requires c κs = search needs
+
+loop-holds : tie.Need-loop-holds Inv-loop μ-loop
+unfolding mergedTable
+loop-holds c = (search needs, λ u v eu ru ev rv. ap (replicate 64) (c .no-row .ensures))
+
+mul-a : tie.Need-mul-a Inv-loop μ-loop
+mul-a c = search needs
+
+array-copy-out-a : tie.Need-array-copy-out-a Inv-loop μ-loop
+array-copy-out-a c = search needs
+
+mul-b : tie.Need-mul-b Inv-loop μ-loop
+mul-b c = search needs
+
+array-copy-out-b : tie.Need-array-copy-out-b Inv-loop μ-loop
+array-copy-out-b c = search needs
+
+merged-row-requires : tie.Need-merged-row-requires Inv-loop μ-loop
+merged-row-requires c κs = search needs
+
+mul-table : tie.Need-mul-table Inv-loop μ-loop
+mul-table c = search needs
+
+array-set-from-table : tie.Need-array-set-from-table Inv-loop μ-loop
+array-set-from-table c = search needs
+
+add-j : tie.Need-add-j Inv-loop μ-loop
+add-j c = search needs
+
+loop-less : tie.Need-loop-less Inv-loop μ-loop
+loop-less c = search needs
+
+loop-again : tie.Need-loop-again Inv-loop μ-loop
+unfolding voteRow
+loop-again c =
+    let l = c .before .before .before .before .loop in (
+      omega arith,
+      λ u v eu ru ev rv. rw (l .inv .1 u v eu ru ev rv, c .merged-row .ensures u v (l .j) eu (rw ru) ev (rw rv)) (table-step (u ∷ v ∷ []) (l .j)),
+    )
+
+returns : tie.Need-returns Inv-loop μ-loop
+returns c =
+    let a = c .before .before .before .before .before .before .before .args in
+    let l = c .before .loop in
+    let e : l .j ≡ a .jobs = omega arith in
+    l .inv .1 (a .low) (a .high) refl refl refl refl ∙ ap (mergedTable (a .low ∷ a .high ∷ [])) e
+
+pub merged-table-spec : {M : Type 1} → statement M
+merged-table-spec =
+    tie.close
+    (tie.spec
+    Inv-loop
+    μ-loop
+    no-row-requires
+    loop-holds
+    mul-a
+    array-copy-out-a
+    mul-b
+    array-copy-out-b
+    merged-row-requires
+    mul-table
+    array-set-from-table
+    add-j
+    loop-less
+    loop-again
+    returns)

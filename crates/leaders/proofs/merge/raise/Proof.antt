@@ -1,0 +1,18 @@
+-- `leaders::merge::raise` meets its contract.
+use borrow.Author.Tests.{le-ltb, lt-ltb}
+use mathlib.Core.Path.{sym}
+use Rattle.boxes.specs.Box.{raised}
+use Rattle.laws.specs.Choice.{pick-true, pick-false}
+use Rattle.leaders.proofs.merge.raise.Statement.{statement}
+use Rattle.leaders.proofs.merge.raise.Tie as tie
+
+returns : tie.Need-returns
+unfolding raised
+returns c = sym (pick-true _ _ (lt-ltb _ _ (c .if1 .taken)))
+
+returns-2 : tie.Need-returns-2
+unfolding raised
+returns-2 c = sym (pick-false _ _ (le-ltb _ _ (c .if1 .left)))
+
+pub raise-spec : {M : Type 1} → statement M
+raise-spec = tie.close (tie.spec returns returns-2)

@@ -1,3 +1,0 @@
--- Marks of boxes, and quorums of them.
-pub mod Marks
-pub mod Quorums

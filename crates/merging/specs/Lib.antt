@@ -1,2 +1,0 @@
--- Laws of two votes: what the definitions of the merge come to for them.
-pub mod Votes

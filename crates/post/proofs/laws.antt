@@ -1,0 +1,3 @@
+-- The laws of post.
+pub mod Posting
+pub mod Index

@@ -1,2 +1,0 @@
--- Laws of writing a section: its count, then one element behind another.
-pub mod Sections

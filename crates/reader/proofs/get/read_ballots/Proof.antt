@@ -1,0 +1,81 @@
+-- `reader::get::read_ballots` meets its contract.
+use Rattle.reader.proofs.laws.Turns.{read-turn}
+use Rattle.records.specs.Fields.{ballots}
+use Rattle.house.specs.Pairs.{noBallot}
+use Rattle.laws.specs.Codec.{decRow}
+use native.Mathlib.Omega.{arith}
+use lib.ListN.{replicate}
+use mathlib.Core.List.{_++_}
+use Prim.Native.Nat.{_-_, _≤_}
+use mathlib.Core.Path.{_≡_, refl, _∙_}
+use borrow.Author.Needs.{needs}
+use Rattle.reader.proofs.get.read_ballots.Statement.{statement}
+use Rattle.reader.proofs.get.read_ballots.Tie as tie
+
+abbrev Inv-loop : tie.InvT-loop
+Inv-loop s n out₀ i₀ out i = (i ≤ n) × (out ≡ decRow ballots i s ++ replicate (4 - i) noBallot)
+
+abbrev μ-loop : tie.MeasureT-loop
+μ-loop s n out₀ i₀ out i = n - i
+
+loop-holds : tie.Need-loop-holds Inv-loop μ-loop
+loop-holds c = (search needs, refl)
+
+cast-k : tie.Need-cast-k Inv-loop μ-loop
+cast-k c = search needs
+
+mul-at : tie.Need-mul-at Inv-loop μ-loop
+mul-at c = search needs
+
+sub-read-ballot : tie.Need-sub-read-ballot Inv-loop μ-loop
+sub-read-ballot c = search needs
+
+part-read-ballot-start : tie.Need-part-read-ballot-start Inv-loop μ-loop
+part-read-ballot-start c = search needs
+
+part-read-ballot-end : tie.Need-part-read-ballot-end Inv-loop μ-loop
+part-read-ballot-end c = search needs
+
+read-ballot-requires : tie.Need-read-ballot-requires Inv-loop μ-loop
+read-ballot-requires c κs = search needs
+
+mul-out : tie.Need-mul-out Inv-loop μ-loop
+mul-out c = search needs
+
+array-set-from-out : tie.Need-array-set-from-out Inv-loop μ-loop
+array-set-from-out c = search needs
+
+add-i : tie.Need-add-i Inv-loop μ-loop
+add-i c = search needs
+
+loop-less : tie.Need-loop-less Inv-loop μ-loop
+loop-less c = search needs
+
+loop-again : tie.Need-loop-again Inv-loop μ-loop
+unfolding ballots
+loop-again c =
+    let a = c .before .before .before .before .before .args in let l = c .before .before .before .loop in
+    (omega arith, read-turn ballots 4 noBallot (a .s .now) (l .i) (l .out) (c .read-ballot .result) (omega (arith, c .before .before .before .before .before .pre)) (l .inv .1) (c .read-ballot .ensures))
+
+returns : tie.Need-returns Inv-loop μ-loop
+returns c = let a = c .before .before .before .args in let l = c .before .loop in let e : l .i ≡ a .n = omega arith in l .inv .1 ∙ rw e
+
+pub read-ballots-spec : {M : Type 1} → statement M
+read-ballots-spec =
+    tie.close
+    (tie.spec
+    Inv-loop
+    μ-loop
+    loop-holds
+    cast-k
+    mul-at
+    sub-read-ballot
+    part-read-ballot-start
+    part-read-ballot-end
+    read-ballot-requires
+    mul-out
+    array-set-from-out
+    add-i
+    loop-less
+    loop-again
+    returns)

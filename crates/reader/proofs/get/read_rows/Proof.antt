@@ -1,0 +1,81 @@
+-- `reader::get::read_rows` meets its contract.
+use Rattle.reader.proofs.laws.Turns.{read-turn}
+use Rattle.records.specs.Fields.{rows}
+use Rattle.house.specs.Pairs.{noRow}
+use Rattle.laws.specs.Codec.{decRow}
+use native.Mathlib.Omega.{arith}
+use lib.ListN.{replicate}
+use mathlib.Core.List.{_++_}
+use Prim.Native.Nat.{_-_, _≤_}
+use mathlib.Core.Path.{_≡_, refl, _∙_}
+use borrow.Author.Needs.{needs}
+use Rattle.reader.proofs.get.read_rows.Statement.{statement}
+use Rattle.reader.proofs.get.read_rows.Tie as tie
+
+abbrev Inv-loop : tie.InvT-loop
+Inv-loop s n out₀ i₀ out i = (i ≤ n) × (out ≡ decRow rows i s ++ replicate (64 - i) noRow)
+
+abbrev μ-loop : tie.MeasureT-loop
+μ-loop s n out₀ i₀ out i = n - i
+
+loop-holds : tie.Need-loop-holds Inv-loop μ-loop
+loop-holds c = (search needs, refl)
+
+cast-k : tie.Need-cast-k Inv-loop μ-loop
+cast-k c = search needs
+
+mul-at : tie.Need-mul-at Inv-loop μ-loop
+mul-at c = search needs
+
+sub-read-row : tie.Need-sub-read-row Inv-loop μ-loop
+sub-read-row c = search needs
+
+part-read-row-start : tie.Need-part-read-row-start Inv-loop μ-loop
+part-read-row-start c = search needs
+
+part-read-row-end : tie.Need-part-read-row-end Inv-loop μ-loop
+part-read-row-end c = search needs
+
+read-row-requires : tie.Need-read-row-requires Inv-loop μ-loop
+read-row-requires c κs = search needs
+
+mul-out : tie.Need-mul-out Inv-loop μ-loop
+mul-out c = search needs
+
+array-set-from-out : tie.Need-array-set-from-out Inv-loop μ-loop
+array-set-from-out c = search needs
+
+add-i : tie.Need-add-i Inv-loop μ-loop
+add-i c = search needs
+
+loop-less : tie.Need-loop-less Inv-loop μ-loop
+loop-less c = search needs
+
+loop-again : tie.Need-loop-again Inv-loop μ-loop
+unfolding rows
+loop-again c =
+    let a = c .before .before .before .before .before .args in let l = c .before .before .before .loop in
+    (omega arith, read-turn rows 64 noRow (a .s .now) (l .i) (l .out) (c .read-row .result) (omega (arith, c .before .before .before .before .before .pre)) (l .inv .1) (c .read-row .ensures))
+
+returns : tie.Need-returns Inv-loop μ-loop
+returns c = let a = c .before .before .before .args in let l = c .before .loop in let e : l .i ≡ a .n = omega arith in l .inv .1 ∙ rw e
+
+pub read-rows-spec : {M : Type 1} → statement M
+read-rows-spec =
+    tie.close
+    (tie.spec
+    Inv-loop
+    μ-loop
+    loop-holds
+    cast-k
+    mul-at
+    sub-read-row
+    part-read-row-start
+    part-read-row-end
+    read-row-requires
+    mul-out
+    array-set-from-out
+    add-i
+    loop-less
+    loop-again
+    returns)

@@ -1,2 +1,0 @@
--- Laws of the next ready job.
-pub mod Next

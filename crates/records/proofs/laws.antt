@@ -1,0 +1,11 @@
+-- The laws of records.
+pub mod Answers
+pub mod Rec
+pub mod Table
+pub mod Kinds
+pub mod Outcome
+pub mod Examples
+pub mod Sections
+pub mod Lengths
+pub mod Shapes
+pub mod Carriers

@@ -1,0 +1,77 @@
+-- How long a record's bytes are: the length of its kind, for any struct with the arrays of the code.
+use Prim.Native.Nat.{ℕ, _+_, _*_, _≤_}
+use mathlib.Core.Bool.{true}
+use mathlib.Core.List.{List, _++_, map}
+use mathlib.Core.Path.{_≡_, sym, ap, _∙_}
+use native.Mathlib.Omega.{arith}
+use lib.ListN.{length, length-append, length-map}
+use Rattle.house.specs.Limits.{mostDistricts, mostJobs, leastTray}
+use Rattle.house.specs.Plan.{planSound}
+use Rattle.house.specs.declared.Plan.{Plan}
+use Rattle.records.specs.Format.{ballotsIn, stampsIn, rowsIn}
+use Rattle.records.specs.Fields.{ballots, stamps, rows}
+use Rattle.records.specs.Bytes.{headBytes, ballotBytes, stampBytes, rowBytes, encode, stampsAt, rowsAt, lengthOf}
+use Rattle.records.proofs.laws.Table.{ballots-most, stamps-most, rows-most, mostRecord, length-most, deliver-length}
+use Rattle.records.specs.declared.Record.{Record}
+use Rattle.records.proofs.laws.Sections.{section-length}
+
+-- the length of an array from that of its image, which is how the code knows it
+pub unmapped : {X Y : Type 0} (f : X → Y) (l : List X) (n : ℕ) → length (map f l) ≡ n → length l ≡ n
+unmapped f l n e = sym (length-map l f) ∙ e
+
+-- the lengths of a record's arrays, which every struct of the code has
+pub record Arrays (r : Record) : Type 0 where
+  pub four : length (r .ballots) ≡ mostDistricts
+  pub two : length (r .stamps) ≡ 2
+  pub many : length (r .table) ≡ mostJobs
+
+module _ (P : Plan) (r : Record) (sound : planSound P ≡ true) (A : Arrays r) where
+  pub ballots-here : ballotsIn P (r .kind) ≤ length (r .ballots)
+  ballots-here = rw (A .four) (ballots-most P (r .kind) sound)
+
+  pub stamps-here : stampsIn (r .kind) ≤ length (r .stamps)
+  stamps-here = rw (A .two) (stamps-most (r .kind))
+
+  pub rows-here : rowsIn P (r .kind) ≤ length (r .table)
+  rows-here = rw (A .many) (rows-most P (r .kind) sound)
+
+  pub ballot-bytes-length : length (ballotBytes P r) ≡ 1 + ballotsIn P (r .kind) * 3
+  unfolding ballotBytes ballots
+  ballot-bytes-length = section-length ballots (r .ballots) (ballotsIn P (r .kind)) (ballotsIn P (r .kind)) ballots-here
+
+  pub stamp-bytes-length : length (stampBytes r) ≡ 1 + stampsIn (r .kind) * 5
+  unfolding stampBytes stamps
+  stamp-bytes-length = section-length stamps (r .stamps) (stampsIn (r .kind)) (stampsIn (r .kind)) stamps-here
+
+  pub row-bytes-length : length (rowBytes P r) ≡ 1 + rowsIn P (r .kind) * 11
+  unfolding rowBytes rows
+  row-bytes-length = section-length rows (r .table) (rowsIn P (r .kind)) (rowsIn P (r .kind)) rows-here
+
+  -- where the count of the stamps stands, and that of the rows
+  pub before-stamps : length (headBytes r ++ ballotBytes P r) ≡ stampsAt P (r .kind)
+  unfolding headBytes stampsAt
+  before-stamps = length-append (headBytes r) (ballotBytes P r) ∙ rw ballot-bytes-length (omega arith)
+
+  pub before-rows : length ((headBytes r ++ ballotBytes P r) ++ stampBytes r) ≡ rowsAt P (r .kind)
+  unfolding rowsAt
+  before-rows = length-append (headBytes r ++ ballotBytes P r) (stampBytes r) ∙ rw (before-stamps, stamp-bytes-length) (omega arith)
+
+  pub encode-length : length (encode P r) ≡ lengthOf P (r .kind)
+  unfolding encode lengthOf
+  encode-length = length-append ((headBytes r ++ ballotBytes P r) ++ stampBytes r) (rowBytes P r) ∙ rw (before-rows, row-bytes-length) (omega arith)
+
+  -- the sum of the sections
+  pub encode-sum : length (encode P r) ≡ 8 + ballotsIn P (r .kind) * 3 + stampsIn (r .kind) * 5 + rowsIn P (r .kind) * 11
+  unfolding lengthOf rowsAt stampsAt
+  encode-sum = encode-length ∙ omega arith
+
+  -- no record has more than 723 bytes, so each fits a tray
+  pub encode-most : length (encode P r) ≤ mostRecord
+  encode-most = rw encode-length (length-most P (r .kind) sound)
+
+  pub encode-fits : length (encode P r) ≤ leastTray
+  encode-fits = omega (arith, encode-most)
+
+-- a DELIVER has 21 bytes
+pub deliver-bytes : (P : Plan) (r : Record) → planSound P ≡ true → Arrays r → r .kind ≡ 4 → length (encode P r) ≡ 21
+deliver-bytes P r s A e = encode-length P r s A ∙ ap (lengthOf P) e ∙ deliver-length P

@@ -1,0 +1,2 @@
+-- What the proofs of this room share, and what others may cite.
+pub mod laws

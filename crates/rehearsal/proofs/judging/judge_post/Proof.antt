@@ -1,0 +1,48 @@
+-- `rehearsal::judging::judge_post` meets its contract.
+use Rattle.rehearsal.proofs.laws.Steps.{judges-no, judges-go, none-such, goes-post}
+use Rattle.steps.proofs.laws.Orders.{posts-sent}
+use Rattle.rehearsal.specs.Night.{exists}
+use Rattle.rehearsal.specs.declared.Order.the-variants.{Post}
+use Rattle.house.specs.Plan.{officeOf, isJob}
+use Rattle.records.specs.Rec.{multicast, carried}
+use borrow.Author.Tests.{lt-ltb, le-ltb}
+use mathlib.Core.Path.{_≡_, _∙_}
+use borrow.Author.Needs.{needs}
+use Rattle.rehearsal.proofs.judging.judge_post.Statement.{statement}
+use Rattle.rehearsal.proofs.judging.judge_post.Tie as tie
+
+cast-if1 : tie.Need-cast-if1
+cast-if1 c = search needs
+
+refuse-requires : tie.Need-refuse-requires
+refuse-requires c κs = search needs
+
+returns : tie.Need-returns
+unfolding exists isJob
+returns c used x s =
+    let a = c .before .before .before in
+    rw (c .refuse .ensures) (judges-no _ _ (none-such (a .args .plan) used x s (Post (a .args .j)) (a .pre) (le-ltb (a .args .j) (a .args .plan .jobs) (c .before .if1 .left))))
+
+office-of-requires : tie.Need-office-of-requires
+office-of-requires c κs = search needs
+
+cast-multicast-record : tie.Need-cast-multicast-record
+cast-multicast-record c = search needs
+
+multicast-record-requires : tie.Need-multicast-record-requires
+multicast-record-requires c κs = search needs
+
+go-requires : tie.Need-go-requires
+go-requires c κs = search needs
+
+returns-2 : tie.Need-returns-2
+unfolding exists isJob
+returns-2 c used x s =
+    let a = c .before .before .before .before .before in
+    let r : c .before .multicast-record .result ≡ carried (multicast (officeOf (a .args .plan)) (officeOf (a .args .plan)) (a .args .j)) =
+    c .before .multicast-record .ensures ∙ rw (c .before .before .office-of .ensures) in
+    rw (c .go .ensures)
+    (judges-go (goes-post (a .args .plan) used x s (a .args .j) _ (a .pre) (lt-ltb (a .args .j) (a .args .plan .jobs) (c .before .before .before .if1 .taken)) (posts-sent (a .args .plan) (a .args .j) _ r)))
+
+pub judge-post-spec : {M : Type 1} → statement M
+judge-post-spec = tie.close (tie.spec cast-if1 refuse-requires returns office-of-requires cast-multicast-record multicast-record-requires go-requires returns-2)

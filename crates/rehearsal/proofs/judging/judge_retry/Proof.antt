@@ -1,0 +1,130 @@
+-- `rehearsal::judging::judge_retry` meets its contract.
+use Rattle.rehearsal.proofs.laws.Steps.{judges-no, judges-go, none-such, acts-no, goes-kept, retry-unsound, retry-acts, retry-keeps}
+use Rattle.rehearsal.specs.Alone.{here}
+use Rattle.rehearsal.specs.Night.{exists}
+use Rattle.rehearsal.specs.declared.Order.the-variants.{Retry}
+use Rattle.steps.proofs.laws.Orders.{retry-is, retries-sent}
+use Rattle.records.specs.Answers.{notSound}
+use Rattle.house.specs.Plan.{isJob}
+use Rattle.house.proofs.laws.Says.{plan-says}
+use Rattle.laws.specs.Choice.{and-right}
+use borrow.Author.Tests.{ltb-true}
+use native.Mathlib.Omega.{arith}
+use lib.Dec.{ltb}
+use Prim.Native.Nat.{ℕ, _<_}
+use mathlib.Core.Bool.{true, false, _&&_}
+use mathlib.Core.List.{List}
+use mathlib.Core.Path.{_≡_, refl, sym, _∙_}
+use borrow.Author.Needs.{needs}
+use Rattle.rehearsal.proofs.judging.judge_retry.Statement.{statement}
+use Rattle.rehearsal.proofs.judging.judge_retry.Tie as tie
+
+there : (c : tie.Then1) (used : ℕ) (s : List ℕ) → exists (c .before .before .before .args .plan) (here used) s (Retry (c .before .before .before .args .p) (c .before .before .before .args .j)) ≡ true
+unfolding exists isJob
+there c used s =
+    let a = c .before .before .before .args in
+    let t : (ltb (a .p) (c .before .before .boxes-of .result) && ltb (a .j) (a .plan .jobs)) ≡ true = c .if1 .taken in
+    rw (← c .before .before .boxes-of .ensures .0) t
+
+-- a job of the plan has one byte
+low : (c : tie.Then1) → c .before .before .before .args .j < 256
+low c =
+    let a = c .before .before .before in
+    let t : (ltb (a .args .p) (c .before .before .boxes-of .result) && ltb (a .args .j) (a .args .plan .jobs)) ≡ true = c .if1 .taken in
+    let l = ltb-true (a .args .j) (a .args .plan .jobs) (and-right (ltb (a .args .p) (c .before .before .boxes-of .result)) (ltb (a .args .j) (a .args .plan .jobs)) t) in
+    let m = plan-says (a .args .plan) (a .pre .0) .jobs-most in
+    omega (arith, l, m)
+
+boxes-of-requires : tie.Need-boxes-of-requires
+boxes-of-requires c κs = search needs
+
+cast-if1 : tie.Need-cast-if1
+cast-if1 c = search needs
+
+cast-if1-2 : tie.Need-cast-if1-2
+cast-if1-2 c = search needs
+
+refuse-requires : tie.Need-refuse-requires
+refuse-requires c κs = search needs
+
+returns : tie.Need-returns
+unfolding exists isJob
+returns c used s =
+    let a = c .before .before .before .before in
+    let t : (ltb (a .args .p) (c .before .before .before .boxes-of .result) && ltb (a .args .j) (a .args .plan .jobs)) ≡ false = c .before .if1 .left in
+    rw (c .refuse .ensures)
+    (judges-no _ _ (none-such (a .args .plan) used (a .args .x) s (Retry (a .args .p) (a .args .j)) (a .pre .0) (rw (← c .before .before .before .boxes-of .ensures .0) t)))
+
+refuse-requires-2 : tie.Need-refuse-requires-2
+refuse-requires-2 c κs = search needs
+
+returns-2 : tie.Need-returns-2
+returns-2 c used s =
+    let a = c .before .before .before .before .before in
+    rw (c .refuse2 .ensures)
+    (judges-no _ _ (acts-no (a .args .plan) used (a .args .x) s (Retry (a .args .p) (a .args .j)) notSound (a .pre .0) (there (c .before .before) used s)
+    (retry-unsound (a .args .plan) used (a .args .x) s (sym (a .pre .1) ∙ c .before .if2 .left) (a .args .p) (a .args .j))))
+
+cast-decide-retry : tie.Need-cast-decide-retry
+cast-decide-retry c = let l = low (c .before) in omega (arith, l)
+
+decide-retry-requires : tie.Need-decide-retry-requires
+decide-retry-requires c κs = search needs
+
+enum-known-answer : tie.Need-enum-known-answer
+enum-known-answer c = search needs
+
+refuse-requires-3 : tie.Need-refuse-requires-3
+refuse-requires-3 c κs = search needs
+
+enum-told : tie.Need-enum-told
+enum-told c = search needs
+
+cast-multicast-record : tie.Need-cast-multicast-record
+cast-multicast-record c = let l = low (c .before .before .before .before .before .before) in omega (arith, l)
+
+multicast-record-requires : tie.Need-multicast-record-requires
+multicast-record-requires c κs = search needs
+
+go-requires : tie.Need-go-requires
+go-requires c κs = search needs
+
+returns-3 : tie.Need-returns-3
+returns-3 c used s =
+    let a = c .before .before .before .before .before .before .before .before .before in
+    let h = sym (a .pre .1) ∙ c .before .before .before .before .before .if2 .taken in
+    let v = retry-is (a .args .plan) (a .args .x) (a .args .j) (sym (c .before .before .before .before .decide-retry .ensures) ∙ c .before .before .answer .given .1) in
+    rw (c .refuse3 .ensures)
+    (judges-no _ _ (acts-no (a .args .plan) used (a .args .x) s (Retry (a .args .p) (a .args .j)) _ (a .pre .0) (there (c .before .before .before .before .before .before) used s)
+    (retry-acts (a .args .plan) used (a .args .x) s h (a .args .p) (a .args .j) ∙ v)))
+
+returns-4 : tie.Need-returns-4
+returns-4 c used s =
+    let a = c .before .before .before .before .before .before .before .before .before .before .before in
+    let h = sym (a .pre .1) ∙ c .before .before .before .before .before .before .before .if2 .taken in
+    let v = retry-is (a .args .plan) (a .args .x) (a .args .j) (sym (c .before .before .before .before .before .before .decide-retry .ensures) ∙ c .before .before .before .before .enum-told .given .1) in
+    rw (c .go .ensures)
+    (judges-go (goes-kept (a .pre .0) (there (c .before .before .before .before .before .before .before .before) used s) (retries-sent (a .args .plan) (a .args .x) (a .args .j) _ (c .before .multicast-record .ensures)) refl
+    (retry-acts (a .args .plan) used (a .args .x) s h (a .args .p) (a .args .j) ∙ v) (retry-keeps (a .args .plan) used (a .args .x) s h (a .pre .2) (a .args .p) (a .args .j))))
+
+pub judge-retry-spec : {M : Type 1} → statement M
+judge-retry-spec =
+    tie.close
+    (tie.spec
+    boxes-of-requires
+    cast-if1
+    cast-if1-2
+    refuse-requires
+    returns
+    refuse-requires-2
+    returns-2
+    cast-decide-retry
+    decide-retry-requires
+    enum-known-answer
+    refuse-requires-3
+    enum-told
+    cast-multicast-record
+    multicast-record-requires
+    go-requires
+    returns-3
+    returns-4)

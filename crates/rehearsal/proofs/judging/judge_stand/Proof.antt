@@ -1,0 +1,101 @@
+-- `rehearsal::judging::judge_stand` meets its contract.
+use Rattle.rehearsal.proofs.laws.Steps.{judges-no, judges-go, none-such, box-there, box-missing, acts-no, goes-kept, stand-unsound, stand-acts, stand-keeps}
+use Rattle.rehearsal.specs.Alone.{here}
+use Rattle.rehearsal.specs.Night.{exists}
+use Rattle.rehearsal.specs.declared.Order.the-variants.{Stand}
+use Rattle.steps.proofs.laws.Orders.{stand-is, standing-sent}
+use Rattle.leaders.proofs.laws.Room.{stand-room}
+use Rattle.records.specs.Answers.{notSound}
+use Prim.Native.Nat.{ℕ}
+use mathlib.Core.Bool.{true}
+use mathlib.Core.List.{List}
+use mathlib.Core.Path.{_≡_, refl, sym, _∙_}
+use borrow.Author.Needs.{needs}
+use Rattle.rehearsal.proofs.judging.judge_stand.Statement.{statement}
+use Rattle.rehearsal.proofs.judging.judge_stand.Tie as tie
+
+there : (c : tie.Then1) (used : ℕ) (s : List ℕ) → exists (c .before .before .args .plan) (here used) s (Stand (c .before .before .args .p)) ≡ true
+there c used s =
+    let a = c .before .before .args in let n = c .before .boxes-of in
+    box-there (a .plan) used s (a .p) (n .result) (n .ensures .0) (c .if1 .taken) .0
+
+boxes-of-requires : tie.Need-boxes-of-requires
+boxes-of-requires c κs = search needs
+
+cast-if1 : tie.Need-cast-if1
+cast-if1 c = search needs
+
+refuse-requires : tie.Need-refuse-requires
+refuse-requires c κs = search needs
+
+returns : tie.Need-returns
+returns c used s =
+    let a = c .before .before .before in let n = c .before .before .boxes-of in
+    let h = box-missing (a .args .plan) used s (a .args .p) (n .result) (n .ensures .0) (c .before .if1 .left) in
+    rw (c .refuse .ensures)
+    (judges-no _ _ (none-such (a .args .plan) used (a .args .x) s (Stand (a .args .p)) (a .pre .0) (h .0)))
+
+refuse-requires-2 : tie.Need-refuse-requires-2
+refuse-requires-2 c κs = search needs
+
+returns-2 : tie.Need-returns-2
+returns-2 c used s =
+    let a = c .before .before .before .before in
+    rw (c .refuse2 .ensures)
+    (judges-no _ _ (acts-no (a .args .plan) used (a .args .x) s (Stand (a .args .p)) notSound (a .pre .0) (there (c .before .before) used s)
+    (stand-unsound (a .args .plan) used (a .args .x) s (sym (a .pre .1) ∙ c .before .if2 .left) (a .args .p))))
+
+decide-stand-requires : tie.Need-decide-stand-requires
+decide-stand-requires c κs = search needs
+
+enum-known-answer : tie.Need-enum-known-answer
+enum-known-answer c = search needs
+
+refuse-requires-3 : tie.Need-refuse-requires-3
+refuse-requires-3 c κs = search needs
+
+enum-told : tie.Need-enum-told
+enum-told c = search needs
+
+stand-record-requires : tie.Need-stand-record-requires
+stand-record-requires c κs = stand-room (c .before .before .before .before .before .before .before .before .args .x) (sym (c .before .before .before .before .decide-stand .ensures) ∙ c .before .before .enum-told .given .1)
+
+go-requires : tie.Need-go-requires
+go-requires c κs = search needs
+
+returns-3 : tie.Need-returns-3
+returns-3 c used s =
+    let a = c .before .before .before .before .before .before .before .before in
+    let h = sym (a .pre .1) ∙ c .before .before .before .before .before .if2 .taken in
+    let v = stand-is (a .args .plan) (a .args .x) (sym (c .before .before .before .before .decide-stand .ensures) ∙ c .before .before .answer .given .1) in
+    rw (c .refuse3 .ensures)
+    (judges-no _ _ (acts-no (a .args .plan) used (a .args .x) s (Stand (a .args .p)) _ (a .pre .0) (there (c .before .before .before .before .before .before) used s)
+    (stand-acts (a .args .plan) used (a .args .x) s h (a .args .p) ∙ v)))
+
+returns-4 : tie.Need-returns-4
+returns-4 c used s =
+    let a = c .before .before .before .before .before .before .before .before .before .before in
+    let h = sym (a .pre .1) ∙ c .before .before .before .before .before .before .before .if2 .taken in
+    let v = stand-is (a .args .plan) (a .args .x) (sym (c .before .before .before .before .before .before .decide-stand .ensures) ∙ c .before .before .before .before .enum-told .given .1) in
+    rw (c .go .ensures)
+    (judges-go (goes-kept (a .pre .0) (there (c .before .before .before .before .before .before .before .before) used s) (standing-sent (a .args .plan) (a .args .x) _ (c .before .stand-record .ensures)) refl
+    (stand-acts (a .args .plan) used (a .args .x) s h (a .args .p) ∙ v) (stand-keeps (a .args .plan) used (a .args .x) s h (a .pre .2) (a .args .p))))
+
+pub judge-stand-spec : {M : Type 1} → statement M
+judge-stand-spec =
+    tie.close
+    (tie.spec
+    boxes-of-requires
+    cast-if1
+    refuse-requires
+    returns
+    refuse-requires-2
+    returns-2
+    decide-stand-requires
+    enum-known-answer
+    refuse-requires-3
+    enum-told
+    stand-record-requires
+    go-requires
+    returns-3
+    returns-4)

@@ -1,0 +1,5 @@
+-- The laws of rehearse.
+pub mod Printed
+pub mod Turns
+pub mod Laws
+pub mod Program

@@ -1,0 +1,80 @@
+-- The program shows a rehearsal, and of a sound plan demand 3 and the regulator's sentence hold of it.
+use Prim.Native.Nat.{ℕ, _<_}
+use mathlib.Core.Bool.{true}
+use mathlib.Core.List.{List, [], _∷_, _++_, append-nil}
+use mathlib.Core.Path.{_≡_, sym, ap, subst, subst₂, _∙_}
+use Rattle.house.specs.Plan.{boxesOf, planSound}
+use Rattle.rehearsal.specs.Night.{boxIn}
+use Rattle.rehearsal.specs.declared.Order.{Order}
+use Rattle.lines.specs.declared.Order as typed
+use Rattle.session.specs.declared.Desk.{Desk}
+use Rattle.session.specs.Heard.{handled, obeyed}
+use Rattle.session.specs.World.{World, act}
+use Rattle.session.proofs.laws.Whole.{whole}
+use Rattle.rehearsed.specs.Runs.{Stage}
+use Rattle.in_order.specs.Words.{SameOrder}
+use Rattle.rehearsed.specs.Words.{afterwards}
+use Rattle.rehearsed.proofs.laws.Proved as Rehearsals
+use Rattle.rehearsed.specs.ShownWords.{planOf, asked, askedBy, played, stageOf, answerShown, jobsShown, InOneOrder}
+use Rattle.rehearsed.specs.Shown.{linesIn, planIn, IsRehearsal, Shown}
+use Rattle.rehearsed.proofs.laws.Plans.{desk-played, no-order, plan-before}
+use Rattle.rehearsed.proofs.laws.Sessions.{asked-both, session}
+use Rattle.rehearsed.proofs.laws.Lists.{same-shown}
+
+-- the answer to the order that a line gives
+asked-same : (w : World) {a b : Order} → b ∷ [] ≡ a ∷ [] → w .text ++ answerShown (w .desk .plan) (stageOf w) b ≡ w .text ++ answerShown (w .desk .plan) (stageOf w) a
+asked-same w {a} {b} e = let same : b ≡ a = cc in rw same
+
+-- an order prints its answer under the plan of that moment
+text-act : (w : World) (o : typed.Order) (a : Order) → asked o ≡ a ∷ [] → act w o .text ≡ w .text ++ answerShown (w .desk .plan) (stageOf w) a
+unfolding act handled obeyed asked answerShown
+text-act w (typed.the-variants.Districts g) a e = absurd (no-order e)
+text-act w (typed.the-variants.Job m) a e = absurd (no-order e)
+text-act w (typed.the-variants.Post j) a e = asked-same w e
+text-act w (typed.the-variants.Stand p) a e = asked-same w e
+text-act w (typed.the-variants.Retry p j) a e = asked-same w e
+text-act w (typed.the-variants.Cut p) a e = asked-same w e
+text-act w (typed.the-variants.Carry k) a e = asked-same w e
+text-act w typed.the-variants.Unreadable a e = absurd (no-order e)
+
+module _ (lent : List ℕ) (chunks : List (List ℕ)) where
+  moments : (first rest : List typed.Order) → linesIn chunks ≡ first ++ rest → stageOf (played lent first) ≡ afterwards (planIn chunks) lent (askedBy first)
+  moments first rest e = subst (λ (l : List typed.Order). stageOf (played lent first) ≡ afterwards (planOf l) lent (askedBy first)) (sym e) (session lent first rest)
+
+  -- whatever is typed
+  pub is-rehearsal : IsRehearsal lent chunks
+  is-rehearsal =
+      record {
+        plan = ap (λ (w : World). w .desk .plan) (whole lent chunks) ∙ ap (λ (d : Desk). d .plan) (desk-played lent (linesIn chunks));
+        end = ap stageOf (whole lent chunks) ∙ moments (linesIn chunks) [] (sym (append-nil (linesIn chunks)));
+        moment = moments;
+        answer = answers;
+      }
+    where
+      answers : (first rest : List typed.Order) (o : typed.Order) (a : Order) → linesIn chunks ≡ first ++ (o ∷ rest) → asked o ≡ a ∷ []
+          → act (played lent first) o .text ≡ played lent first .text ++ answerShown (planIn chunks) (afterwards (planIn chunks) lent (askedBy first)) a
+      answers first rest o a e h =
+          let P = ap (λ (d : Desk). d .plan) (desk-played lent first) ∙ sym (ap planOf e ∙ plan-before first o rest a h) in
+          let Q = moments first (o ∷ rest) e in
+          text-act (played lent first) o a h ∙ (λ i. played lent first .text ++ answerShown (P i) (Q i) a)
+
+  -- whatever is typed, if its plan is sound
+  pub shown : planSound (planIn chunks) ≡ true → Shown lent chunks
+  shown sound =
+      record {
+        demand3 = Rehearsals.demand3 (planIn chunks) sound lent;
+        one-order = Rehearsals.one-order (planIn chunks) sound lent;
+        lists = pairs;
+        report = λ p q lp lq.
+            let all = sym (append-nil (linesIn chunks)) in
+            rw (whole lent chunks) (pairs (linesIn chunks) [] (linesIn chunks) [] p q all all lp lq);
+      }
+    where
+      pairs : (first rest second more : List typed.Order) (p q : ℕ) → linesIn chunks ≡ first ++ rest → linesIn chunks ≡ second ++ more
+          → p < boxesOf (planIn chunks) → q < boxesOf (planIn chunks)
+          → InOneOrder (jobsShown (played lent first .night) p) (jobsShown (played lent second .night) q)
+      pairs first rest second more p q e f lp lq =
+          same-shown (played lent first .night) (played lent second .night) p q
+          (subst₂ (λ (r s : Stage). SameOrder (boxIn (r .night) p) (boxIn (s .night) q)) (sym (moments first rest e)) (sym (moments second more f))
+          (Rehearsals.one-order (planIn chunks) sound lent (askedBy first) (askedBy rest) (askedBy second) (askedBy more) p q
+          (sym (asked-both first rest) ∙ ap askedBy (sym e ∙ f) ∙ asked-both second more) lp lq))

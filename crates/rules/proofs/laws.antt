@@ -1,0 +1,2 @@
+-- The laws of rules.
+pub mod Ends

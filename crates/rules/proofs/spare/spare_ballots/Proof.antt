@@ -1,0 +1,67 @@
+-- `rules::spare::spare_ballots` meets its contract.
+use Prim.Native.Nat.{ℕ, _-_, _≤_}
+use mathlib.Core.Path.{_≡_, refl, ap, _∙_}
+use native.Mathlib.Omega.{arith}
+use mathlib.Core.Bool.{_||_}
+use lib.Dec.{ltb}
+use lib.ListN.{getD}
+use Rattle.house.specs.Pairs.{noBallot, isNoBallot}
+use Rattle.laws.specs.Fold.{allBelow}
+use Rattle.laws.proofs.laws.Fold.{all-step}
+use Rattle.records.specs.Rules.{spareBallots}
+use borrow.Author.Needs.{needs}
+use Rattle.rules.proofs.spare.spare_ballots.Statement.{statement}
+use Rattle.rules.proofs.spare.spare_ballots.Tie as tie
+
+abbrev Inv-loop : tie.InvT-loop
+Inv-loop n ballots ok₀ i₀ ok i = (i ≤ 4) × (ok ≡ allBelow (λ (k : ℕ). ltb k n || isNoBallot (getD ballots k noBallot)) i)
+
+abbrev μ-loop : tie.MeasureT-loop
+μ-loop n ballots ok₀ i₀ ok i = 4 - i
+
+loop-holds : tie.Need-loop-holds Inv-loop μ-loop
+unfolding allBelow
+loop-holds c = (search needs, refl)
+
+cast-at : tie.Need-cast-at Inv-loop μ-loop
+cast-at c = search needs
+
+mul-b : tie.Need-mul-b Inv-loop μ-loop
+mul-b c = search needs
+
+array-copy-out-b : tie.Need-array-copy-out-b Inv-loop μ-loop
+array-copy-out-b c = search needs
+
+is-no-ballot-requires : tie.Need-is-no-ballot-requires Inv-loop μ-loop
+is-no-ballot-requires c κs = search needs
+
+add-i : tie.Need-add-i Inv-loop μ-loop
+add-i c = search needs
+
+loop-less : tie.Need-loop-less Inv-loop μ-loop
+loop-less c = search needs
+
+loop-again : tie.Need-loop-again Inv-loop μ-loop
+loop-again c =
+    let a = c .before .before .before .before .args in let l = c .before .before .before .loop in
+    (omega arith, rw (l .inv .1, c .is-no-ballot .ensures) (all-step (λ (k : ℕ). ltb k (a .n) || isNoBallot (getD (a .t1) k noBallot)) (l .i)))
+
+returns : tie.Need-returns Inv-loop μ-loop
+unfolding spareBallots
+returns c = let a = c .before .before .args in let l = c .before .loop in let e : l .i ≡ 4 = omega arith in l .inv .1 ∙ ap (allBelow (λ (k : ℕ). ltb k (a .n) || isNoBallot (getD (a .t1) k noBallot))) e
+
+pub spare-ballots-spec : {M : Type 1} → statement M
+spare-ballots-spec =
+    tie.close
+    (tie.spec
+    Inv-loop
+    μ-loop
+    loop-holds
+    cast-at
+    mul-b
+    array-copy-out-b
+    is-no-ballot-requires
+    add-i
+    loop-less
+    loop-again
+    returns)

@@ -1,0 +1,67 @@
+-- `rules::spare::spare_stamps` meets its contract.
+use Prim.Native.Nat.{ℕ, _-_, _≤_}
+use mathlib.Core.Path.{_≡_, refl, ap, _∙_}
+use native.Mathlib.Omega.{arith}
+use mathlib.Core.Bool.{_||_}
+use lib.Dec.{ltb}
+use lib.ListN.{getD}
+use Rattle.house.specs.Pairs.{noStamp, isNoStamp}
+use Rattle.laws.specs.Fold.{allBelow}
+use Rattle.laws.proofs.laws.Fold.{all-step}
+use Rattle.records.specs.Rules.{spareStamps}
+use borrow.Author.Needs.{needs}
+use Rattle.rules.proofs.spare.spare_stamps.Statement.{statement}
+use Rattle.rules.proofs.spare.spare_stamps.Tie as tie
+
+abbrev Inv-loop : tie.InvT-loop
+Inv-loop n stamps ok₀ i₀ ok i = (i ≤ 2) × (ok ≡ allBelow (λ (k : ℕ). ltb k n || isNoStamp (getD stamps k noStamp)) i)
+
+abbrev μ-loop : tie.MeasureT-loop
+μ-loop n stamps ok₀ i₀ ok i = 2 - i
+
+loop-holds : tie.Need-loop-holds Inv-loop μ-loop
+unfolding allBelow
+loop-holds c = (search needs, refl)
+
+cast-at : tie.Need-cast-at Inv-loop μ-loop
+cast-at c = search needs
+
+mul-s : tie.Need-mul-s Inv-loop μ-loop
+mul-s c = search needs
+
+array-copy-out-s : tie.Need-array-copy-out-s Inv-loop μ-loop
+array-copy-out-s c = search needs
+
+is-no-stamp-requires : tie.Need-is-no-stamp-requires Inv-loop μ-loop
+is-no-stamp-requires c κs = search needs
+
+add-i : tie.Need-add-i Inv-loop μ-loop
+add-i c = search needs
+
+loop-less : tie.Need-loop-less Inv-loop μ-loop
+loop-less c = search needs
+
+loop-again : tie.Need-loop-again Inv-loop μ-loop
+loop-again c =
+    let a = c .before .before .before .before .args in let l = c .before .before .before .loop in
+    (omega arith, rw (l .inv .1, c .is-no-stamp .ensures) (all-step (λ (k : ℕ). ltb k (a .n) || isNoStamp (getD (a .t1) k noStamp)) (l .i)))
+
+returns : tie.Need-returns Inv-loop μ-loop
+unfolding spareStamps
+returns c = let a = c .before .before .args in let l = c .before .loop in let e : l .i ≡ 2 = omega arith in l .inv .1 ∙ ap (allBelow (λ (k : ℕ). ltb k (a .n) || isNoStamp (getD (a .t1) k noStamp))) e
+
+pub spare-stamps-spec : {M : Type 1} → statement M
+spare-stamps-spec =
+    tie.close
+    (tie.spec
+    Inv-loop
+    μ-loop
+    loop-holds
+    cast-at
+    mul-s
+    array-copy-out-s
+    is-no-stamp-requires
+    add-i
+    loop-less
+    loop-again
+    returns)

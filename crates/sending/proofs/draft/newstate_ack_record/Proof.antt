@@ -1,0 +1,15 @@
+-- `sending::draft::newstate_ack_record` meets its contract.
+use Rattle.records.specs.Rec.{carried}
+use borrow.Author.Needs.{needs}
+use Rattle.sending.proofs.draft.newstate_ack_record.Statement.{statement}
+use Rattle.sending.proofs.draft.newstate_ack_record.Tie as tie
+
+ballot-record-requires : tie.Need-ballot-record-requires
+ballot-record-requires c κs = search needs
+
+returns : tie.Need-returns
+unfolding carried
+returns c = c .ballot-record .ensures
+
+pub newstate-ack-record-spec : {M : Type 1} → statement M
+newstate-ack-record-spec = tie.close (tie.spec ballot-record-requires returns)

@@ -1,0 +1,198 @@
+-- `sending::handing::hand_out` meets its contract.
+use Prim.Native.Nat.{ℕ, _+_, _-_, _*_, _≤_, _<_}
+use mathlib.Core.List.{List}
+use mathlib.Core.Logic.{_⊎_, inl, inr}
+use mathlib.Core.Path.{_≡_, refl, sym, ap, _∙_}
+use native.Mathlib.Omega.{arith}
+use lib.ListN.{length, getD, length-drop}
+use Rattle.laws.specs.Tray.{onto}
+use Rattle.laws.proofs.laws.Tray.{onto-nil, rest-of, behind}
+use Rattle.house.specs.Limits.{noJob}
+use Rattle.house.specs.Pairs.{noRow}
+use Rattle.house.proofs.laws.Says.{plan-says}
+use Rattle.records.specs.Bytes.{encodeAll}
+use Rattle.records.specs.Rec.{Rec}
+use Rattle.boxes.specs.Box.{putSent}
+use Rattle.boxes.specs.Ready.{nextReady, handTurns, handOut}
+use Rattle.boxes.specs.declared.Volatile.{Volatile}
+use Rattle.sending.proofs.laws.Sends.{encode-none}
+use Rattle.sending.specs.Turns.{boxOf, deliversFrom}
+use Rattle.sending.proofs.laws.Turns.{turn-none, turns-stay, Turn, turn}
+use borrow.Author.Needs.{needs}
+use Rattle.sending.proofs.handing.hand_out.Statement.{statement}
+use Rattle.sending.proofs.handing.hand_out.Tie as tie
+
+abbrev Inv-loop : tie.InvT-loop
+Inv-loop t₀ plan c table sent₀ used₀ records₀ n i₀ t sent used records i =
+    (i ≤ n) × (n ≤ 64) × (length t ≡ length t₀) × (records ≤ 12 * i) × (used ≤ length t₀)
+    × ((v : Volatile) → let h = handTurns plan (boxOf c v) i in (putSent (boxOf c v) sent ≡ h .box)
+    × (used ≡ length (encodeAll plan (h .sent))) × (records ≡ length (h .sent)) × (t ≡ onto (encodeAll plan (h .sent)) t₀))
+
+abbrev μ-loop : tie.MeasureT-loop
+μ-loop t₀ plan c table sent₀ used₀ records₀ n i₀ t sent used records i = n - i
+
+-- the records of the next ready job
+abbrev more : (c : tie.Else1 Inv-loop μ-loop) → List Rec
+more c =
+    let a = c .before .before .before .before .before .before .before .before .args in let j = c .before .next-ready .result in
+    deliversFrom (a .plan) (a .c .own) (a .c .cballot) (getD (a .c .table) j noRow) j
+
+-- one turn with a ready job, of a box with this core
+turning : (c : tie.Else1 Inv-loop μ-loop) (v : Volatile)
+    → let a = c .before .before .before .before .before .before .before .before .args in let l = c .before .before .before .loop in
+    Turn (a .plan) (boxOf (a .c) v) (l .i) (a .plan .jobs) (l .sent) (c .before .next-ready .result) (more c)
+turning c v =
+    let a = c .before .before .before .before .before .before .before .before .args in let l = c .before .before .before .loop in
+    let e = c .before .next-ready .ensures .0 (a .plan) (putSent (boxOf (a .c) v) (l .sent)) refl refl refl in
+    turn (a .plan) (boxOf (a .c) v) (l .i) (a .plan .jobs) (l .sent) (c .before .next-ready .result) (l .inv .5 v .0) e (c .if1 .left)
+    (c .before .before .loop-test .taken)
+
+-- and its bytes fit
+fitting : (c : tie.Else1 Inv-loop μ-loop)
+    → let a = c .before .before .before .before .before .before .before .before .args in
+    c .before .before .before .loop .used + length (encodeAll (a .plan) (more c)) ≤ length (a .t .now)
+fitting c =
+    let l = c .before .before .before .loop in let r = c .before .before .before .before .before .before .before .before .pre .1 in
+    let g = turning c (r .0) in omega (arith, g .fits, l .inv .5 (r .0) .1, r .1)
+
+-- a ready job's number is one of the table's
+low : {j n : ℕ} → (j ≡ noJob) ⊎ (j < n) → (j ≡ noJob → ⊥) → n ≤ 64 → j < 64
+low (inl e) h k = absurd (h e)
+low (inr l) h k = omega arith
+
+low-job : (c : tie.Else1 Inv-loop μ-loop) → c .before .next-ready .result < 64
+low-job c = low (c .before .next-ready .ensures .1) (c .if1 .left) (c .before .before .before .loop .inv .1)
+
+cast-n : tie.Need-cast-n Inv-loop μ-loop
+cast-n c = search needs
+
+loop-holds : tie.Need-loop-holds Inv-loop μ-loop
+loop-holds c =
+    let a = c .before .before .before .before .args in let S = plan-says (a .plan) (c .before .before .before .before .pre .0) in (
+      search needs,
+      S .jobs-most,
+      refl,
+      search needs,
+      search needs,
+      λ v. let z = turn-none (a .plan) (boxOf (a .c) v) in let e = encode-none (a .plan) in
+          (rw z, rw (z, e), rw z, rw (z, e) (sym (onto-nil (a .t .now)))),
+    )
+
+next-ready-requires : tie.Need-next-ready-requires Inv-loop μ-loop
+next-ready-requires c κs = search needs
+
+same-length : tie.Need-same-length Inv-loop μ-loop
+same-length c = c .before .before .before .loop .inv .2
+
+returns : tie.Need-returns Inv-loop μ-loop
+returns c =
+    let a = c .before .before .before .before .before .before .before .before .args in let l = c .before .before .before .loop in λ v.
+    let q = l .inv .5 v in let x = boxOf (a .c) v in
+    let e : nextReady (a .plan) (handTurns (a .plan) x (l .i) .box) ≡ noJob =
+    rw (← q .0) (sym (c .before .next-ready .ensures .0 (a .plan) (putSent x (l .sent)) refl refl refl) ∙ c .if1 .taken) in
+    let s : l .i + (a .plan .jobs - l .i) ≡ a .plan .jobs = omega (arith, l .inv .0) in
+    let z : handOut (a .plan) x ≡ handTurns (a .plan) x (l .i) =
+    sym (ap (handTurns (a .plan) x) s) ∙ turns-stay (a .plan) x (l .i) (a .plan .jobs - l .i) e in
+    (rw z (q .0), rw z (q .1), rw z (q .2), rw z (q .3))
+
+cast-at : tie.Need-cast-at Inv-loop μ-loop
+cast-at c = search needs
+
+mul-row : tie.Need-mul-row Inv-loop μ-loop
+mul-row c = let l = low-job c in search needs
+
+array-copy-out-row : tie.Need-array-copy-out-row Inv-loop μ-loop
+array-copy-out-row c = low-job c
+
+sub-hand-job : tie.Need-sub-hand-job Inv-loop μ-loop
+sub-hand-job c = search needs
+
+part-hand-job-start : tie.Need-part-hand-job-start Inv-loop μ-loop
+part-hand-job-start c = search needs
+
+part-hand-job-end : tie.Need-part-hand-job-end Inv-loop μ-loop
+part-hand-job-end c = search needs
+
+hand-job-requires : tie.Need-hand-job-requires Inv-loop μ-loop
+hand-job-requires c κs =
+    let l = c .before .before .before .before .before .before .before .loop in let f = fitting (c .before .before .before .before) in (
+      c .before .before .before .before .before .before .before .before .before .before .before .before .pre .0,
+      rw (rest-of (l .used) (l .t), length-drop) (omega (arith, f, l .inv .2)),
+    )
+
+add-used : tie.Need-add-used Inv-loop μ-loop
+add-used c =
+    let f = fitting (c .before .before .before .before .before .before .before .before) in
+    omega (arith, f, c .before .before .before .hand-job .ensures .0)
+
+add-records : tie.Need-add-records Inv-loop μ-loop
+add-records c = search needs
+
+array-write-sent : tie.Need-array-write-sent Inv-loop μ-loop
+array-write-sent c = low-job (c .before .before .before .before .before .before .before .before .before)
+
+add-i : tie.Need-add-i Inv-loop μ-loop
+add-i c = search needs
+
+loop-less : tie.Need-loop-less Inv-loop μ-loop
+loop-less c = search needs
+
+loop-again : tie.Need-loop-again Inv-loop μ-loop
+loop-again c =
+    let d = c .before .before .before .before .before .before .before .before .before in
+    let a = d .before .before .before .before .before .before .before .before .args in
+    let l = d .before .before .before .loop in let q = c .before .before .before .before .hand-job in let f = fitting d in (
+      omega (arith, d .before .before .loop-test .taken),
+      l .inv .1,
+      c .before .before .before .t .given .1 ∙ l .inv .2,
+      omega (arith, q .ensures .3, l .inv .3),
+      omega (arith, f, q .ensures .0),
+      λ v.
+          let g = turning d v in let p = l .inv .5 v in let old = encodeAll (a .plan) (handTurns (a .plan) (boxOf (a .c) v) (l .i) .sent) in (
+            g .box,
+            rw (p .1, q .ensures .0) (g .count),
+            rw (p .2, q .ensures .1) (g .number),
+            behind old (encodeAll (a .plan) (more d)) (a .t .now) (l .t) (q .last .0) (l .used) (p .1) (p .3) (q .ensures .2)
+                ∙ ap (λ (bs : List ℕ). onto bs (a .t .now)) (g .bytes),
+          ),
+    )
+
+same-length-2 : tie.Need-same-length-2 Inv-loop μ-loop
+same-length-2 c = c .before .loop .inv .2
+
+returns-2 : tie.Need-returns-2 Inv-loop μ-loop
+returns-2 c =
+    let a = c .before .before .before .before .before .before .args in let l = c .before .loop in let e : l .i ≡ a .plan .jobs = omega arith in λ v.
+    let q = l .inv .5 v in let x = boxOf (a .c) v in (
+      q .0 ∙ ap (λ (k : ℕ). handTurns (a .plan) x k .box) e,
+      q .1 ∙ ap (λ (k : ℕ). length (encodeAll (a .plan) (handTurns (a .plan) x k .sent))) e,
+      q .2 ∙ ap (λ (k : ℕ). length (handTurns (a .plan) x k .sent)) e,
+      q .3 ∙ ap (λ (k : ℕ). onto (encodeAll (a .plan) (handTurns (a .plan) x k .sent)) (a .t .now)) e,
+    )
+
+pub hand-out-spec : {M : Type 1} → statement M
+hand-out-spec =
+    tie.close
+    (tie.spec
+    Inv-loop
+    μ-loop
+    cast-n
+    loop-holds
+    next-ready-requires
+    same-length
+    returns
+    cast-at
+    mul-row
+    array-copy-out-row
+    sub-hand-job
+    part-hand-job-start
+    part-hand-job-end
+    hand-job-requires
+    add-used
+    add-records
+    array-write-sent
+    add-i
+    loop-less
+    loop-again
+    same-length-2
+    returns-2)

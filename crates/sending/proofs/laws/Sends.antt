@@ -1,0 +1,88 @@
+-- Laws of what specs/Sends.antt defines.
+use Prim.Native.Nat.{ℕ, zero, suc, _+_, _<_, _≤_}
+use mathlib.Core.Bool.{Bool, true, false}
+use mathlib.Core.List.{List, [], _∷_, _++_, append-assoc, append-nil}
+use mathlib.Core.Path.{_≡_, refl, sym, ap, _∙_}
+use native.Mathlib.Nat.{add-zero}
+use native.Mathlib.Omega.{arith}
+use lib.ListN.{length, length-append}
+use Rattle.laws.specs.Choice.{pick, pick-true, pick-false}
+use Rattle.laws.proofs.laws.Choice.{pick-ap}
+use Rattle.laws.specs.Fold.{upto}
+use Rattle.laws.proofs.laws.Fold.{upto-step}
+use Rattle.laws.specs.Tray.{allFor}
+use Rattle.laws.proofs.laws.Tray.{for-step}
+use Rattle.house.specs.Pairs.{boxNo}
+use Rattle.house.specs.declared.BoxNo.{BoxNo}
+use Rattle.house.specs.Plan.{boxesOf}
+use Rattle.house.specs.declared.Plan.{Plan}
+use Rattle.records.specs.Rec.{Rec, carried}
+use Rattle.records.specs.Bytes.{encode, encodeAll}
+use Rattle.records.specs.declared.Record.{Record}
+use Rattle.boxes.specs.Out.{toEach}
+use Rattle.sending.specs.Sends.{addressed, goesTo, sentTo, sentBytes, meantBelow, sentCount, Sends}
+
+-- records one behind the other
+pub encode-append : (P : Plan) (l k : List Rec) → encodeAll P (l ++ k) ≡ encodeAll P l ++ encodeAll P k
+unfolding encodeAll
+encode-append P [] k = refl
+encode-append P (r ∷ l) k = rw (encode-append P l k, append-assoc)
+
+pub encode-one : (P : Plan) (r : Rec) → encodeAll P (r ∷ []) ≡ encode P (carried r)
+unfolding encodeAll
+encode-one P r = append-nil (encode P (carried r))
+
+pub encode-none : (P : Plan) → encodeAll P [] ≡ []
+unfolding encodeAll
+encode-none P = refl
+
+meant-step : (P : Plan) (r : Record) (n : ℕ) → meantBelow P r n + pick (goesTo P r (boxNo n)) 1 0 ≡ meantBelow P r (n + 1)
+unfolding meantBelow
+meant-step P r n = upto-step (λ (k p : ℕ). k + pick (goesTo P r (boxNo p)) 1 0) 0 n
+
+-- a box that is meant adds its record, another nothing
+pub sent-meant : (P : Plan) (r : Record) (p : ℕ) → goesTo P r (boxNo p) ≡ true
+    → (sentTo P r p ≡ encode P (addressed r (boxNo p))) × (meantBelow P r (p + 1) ≡ meantBelow P r p + 1)
+unfolding sentTo
+sent-meant P r p e = (pick-true (encode P (addressed r (boxNo p))) [] e, sym (meant-step P r p) ∙ rw (pick-true {A = ℕ} 1 0 e))
+
+pub sent-spared : (P : Plan) (r : Record) (p : ℕ) → goesTo P r (boxNo p) ≡ false
+    → (allFor (sentTo P r) (p + 1) ≡ allFor (sentTo P r) p) × (meantBelow P r (p + 1) ≡ meantBelow P r p)
+unfolding sentTo
+sent-spared P r p e = (
+  sym (for-step (sentTo P r) p) ∙ rw (pick-false (encode P (addressed r (boxNo p))) [] e) (append-nil (allFor (sentTo P r) p)),
+  sym (meant-step P r p) ∙ rw (pick-false {A = ℕ} 1 0 e) (add-zero (meantBelow P r p)),
+)
+
+-- a record that is r but for the box that it names goes to the same boxes, and becomes the same when it names another
+pub goes-same : (P : Plan) (r q : Record) (p : BoxNo) → q ≡ addressed r (q .to) → goesTo P q p ≡ goesTo P r p
+unfolding goesTo addressed
+goes-same P r q p e = ap (λ (k : Record). goesTo P k p) e
+
+pub addressed-same : (r q : Record) (p : BoxNo) → q ≡ addressed r (q .to) → addressed q p ≡ addressed r p
+unfolding addressed
+addressed-same r q p e = ap (λ (k : Record). addressed k p) e
+
+-- a list made box by box is sent box by box, if the same boxes are meant and each gets the same record
+module _ (P : Plan) (meant : BoxNo → Bool) (f : BoxNo → Rec) (r : Record)
+    (who : (p : ℕ) → p < boxesOf P → meant (boxNo p) ≡ goesTo P r (boxNo p)) (what : (p : BoxNo) → carried (f p) ≡ addressed r p) where
+  made : ℕ → List Rec
+  made n = upto (λ l p. l ++ pick (meant (boxNo p)) (f (boxNo p) ∷ []) []) [] n
+
+  bytes-below : (n : ℕ) → n ≤ boxesOf P → encodeAll P (made n) ≡ allFor (sentTo P r) n
+  unfolding allFor made sentTo
+  bytes-below zero h = encode-none P
+  bytes-below (suc n) h =
+      encode-append P (made n) (pick (meant (boxNo n)) (f (boxNo n) ∷ []) [])
+      ∙ rw (bytes-below n (omega arith), pick-ap (encodeAll P) (meant (boxNo n)) (f (boxNo n) ∷ []) [], encode-one P (f (boxNo n)), encode-none P, what (boxNo n), who n (omega arith))
+
+  count-below : (n : ℕ) → n ≤ boxesOf P → length (made n) ≡ meantBelow P r n
+  unfolding made meantBelow
+  count-below zero h = refl
+  count-below (suc n) h =
+      length-append (made n) (pick (meant (boxNo n)) (f (boxNo n) ∷ []) [])
+      ∙ rw (count-below n (omega arith), pick-ap (length {A = Rec}) (meant (boxNo n)) (f (boxNo n) ∷ []) [], who n (omega arith))
+
+  pub each-sends : Sends P (toEach P meant f) r
+  unfolding toEach made sentBytes sentCount
+  each-sends = record { bytes = bytes-below (boxesOf P) (omega arith); count = count-below (boxesOf P) (omega arith) }

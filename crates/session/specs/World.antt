@@ -1,0 +1,18 @@
+-- A world is what the lines of the input before lead to: the desk, the night, the post and all the text printed so far. The order of a line,
+-- in a world, does what crate hearing says.
+use Prim.Native.Nat.{ℕ}
+use mathlib.Core.List.{List, _++_}
+use Rattle.lines.specs.declared.Order.{Order}
+use Rattle.session.specs.Heard.{After, handled}
+
+-- what a line leaves, with the text of all lines before
+abbrev pub World : Type 0
+World = After
+
+-- behind some text
+abbrev pub saying : List ℕ → World → World
+saying x w = record { desk = w .desk; night = w .night; post = w .post; text = x ++ w .text }
+
+-- the order of a line, in a world
+unfoldable pub act : World → Order → World
+act w o = saying (w .text) (handled (w .desk) (w .night) (w .post) o)

@@ -1,2 +1,0 @@
--- The list of a box as an array: the tests of specs/Sound.antt of the crate boxes, over what each of them reads.
-pub mod Lists

@@ -1,2 +1,0 @@
--- The volatile part of a box: the tests of specs/Sound.antt of the crate boxes, over what each of them reads.
-pub mod Pairs

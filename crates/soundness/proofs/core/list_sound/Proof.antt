@@ -1,0 +1,100 @@
+-- `soundness::core::list_sound` meets its contract.
+use Rattle.soundness.proofs.laws.Lists.{repeats, nthSound, placesSound, list-is, Seen, seen-none, seen-step}
+use Rattle.boxes.specs.Box.{noListed}
+use Rattle.laws.specs.Fold.{allBelow}
+use Rattle.laws.proofs.laws.Fold.{all-step}
+use lib.ListN.{getD}
+use native.Mathlib.Omega.{arith}
+use mathlib.Core.Bool.{false}
+use mathlib.Core.Path.{_≡_, refl}
+use Prim.Native.Nat.{_+_, _-_, _≤_}
+use borrow.Author.Needs.{needs}
+use Rattle.soundness.proofs.core.list_sound.Statement.{statement}
+use Rattle.soundness.proofs.core.list_sound.Tie as tie
+
+abbrev Inv-loop : tie.InvT-loop
+Inv-loop plan c list home last₀ seen₀ ok₀ i₀ last seen ok i =
+    (i ≤ 64) × (last ≡ getD list (i - 1) noListed .stamp) × Seen 256 list seen i × (ok ≡ placesSound plan home (c .count) list i)
+
+abbrev μ-loop : tie.MeasureT-loop
+μ-loop plan c list home last₀ seen₀ ok₀ i₀ last seen ok i = 64 - i
+
+home-of-requires : tie.Need-home-of-requires Inv-loop μ-loop
+home-of-requires c κs = search needs
+
+array-copy-out-first : tie.Need-array-copy-out-first Inv-loop μ-loop
+array-copy-out-first c = search needs
+
+loop-holds : tie.Need-loop-holds Inv-loop μ-loop
+unfolding placesSound allBelow
+loop-holds c = (search needs, refl, seen-none 256 (c .before .before .before .before .before .before .args .x .core .list), refl)
+
+cast-at : tie.Need-cast-at Inv-loop μ-loop
+cast-at c = search needs
+
+mul-e : tie.Need-mul-e Inv-loop μ-loop
+mul-e c = search needs
+
+array-copy-out-e : tie.Need-array-copy-out-e Inv-loop μ-loop
+array-copy-out-e c = search needs
+
+cast-job : tie.Need-cast-job Inv-loop μ-loop
+cast-job c = search needs
+
+array-read-place-sound : tie.Need-array-read-place-sound Inv-loop μ-loop
+array-read-place-sound c = search needs
+
+place-sound-requires : tie.Need-place-sound-requires Inv-loop μ-loop
+place-sound-requires c κs = search needs
+
+array-write-seen : tie.Need-array-write-seen Inv-loop μ-loop
+array-write-seen c = search needs
+
+add-i : tie.Need-add-i Inv-loop μ-loop
+add-i c = search needs
+
+loop-less : tie.Need-loop-less Inv-loop μ-loop
+loop-less c = search needs
+
+loop-again : tie.Need-loop-again Inv-loop μ-loop
+unfolding placesSound nthSound Seen
+loop-again c =
+    let a = c .before .before .before .before .before .before .before .before .before .before .before .before .before .args in
+    let h = c .before .before .before .before .before .before .before .before .before .home-of in
+    let l = c .before .before .before .before .before .before .loop in
+    let list = a .x .core .list in let job = getD list (l .i) noListed .job in
+    let e : l .i + 1 - 1 ≡ l .i = omega arith in
+    let seen : getD (l .seen) job false ≡ repeats list job (l .i) = l .inv .2 .1 job (array-read-place-sound (c .before .before)) in (
+      omega arith,
+      rw e,
+      seen-step 256 list (l .seen) (l .i) (l .inv .2),
+      rw (l .inv .3, c .before .place-sound .ensures, l .inv .1, seen) (all-step (nthSound (a .plan) (h .result) (a .x .core .count) list) (l .i)),
+    )
+
+returns : tie.Need-returns Inv-loop μ-loop
+returns c =
+    let a = c .before .before .before .before .before .before .before .before .before .args in
+    let l = c .before .before .loop in let h = c .before .before .before .before .before .home-of in
+    let e : l .i ≡ 64 = omega arith in
+    rw (l .inv .3, e, h .ensures) (list-is (a .plan) (a .x))
+
+pub list-sound-spec : {M : Type 1} → statement M
+list-sound-spec =
+    tie.close
+    (tie.spec
+    Inv-loop
+    μ-loop
+    home-of-requires
+    array-copy-out-first
+    loop-holds
+    cast-at
+    mul-e
+    array-copy-out-e
+    cast-job
+    array-read-place-sound
+    place-sound-requires
+    array-write-seen
+    add-i
+    loop-less
+    loop-again
+    returns)

@@ -1,0 +1,3 @@
+-- The laws of soundness.
+pub mod Lists
+pub mod Pairs

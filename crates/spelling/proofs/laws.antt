@@ -1,0 +1,7 @@
+-- The laws of spelling.
+pub mod Filled
+pub mod Fits
+pub mod Round
+pub mod Meanings
+pub mod Readback
+pub mod Sizes

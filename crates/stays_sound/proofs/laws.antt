@@ -1,0 +1,19 @@
+-- The laws of stays_sound.
+pub mod Laws
+pub mod Rows
+pub mod Obeys
+pub mod Parts
+pub mod Listing
+pub mod Sound
+pub mod Fresh
+pub mod Sends
+pub mod Size
+pub mod Changes
+pub mod Goods
+pub mod HandOut
+pub mod Merge
+pub mod Leads
+pub mod KeptStamps
+pub mod Jobs
+pub mod Structs
+pub mod Steps

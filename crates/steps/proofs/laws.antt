@@ -1,0 +1,7 @@
+-- The laws of steps.
+pub mod Acting
+pub mod Judged
+pub mod Kinds
+pub mod Judging
+pub mod Orders
+pub mod Owned

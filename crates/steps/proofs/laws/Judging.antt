@@ -1,0 +1,137 @@
+-- Laws of what specs/Judging.antt defines.
+use Prim.Native.Nat.{ℕ, _+_, _-_, _≤_}
+use mathlib.Core.Bool.{Bool, true, false, _&&_}
+use mathlib.Core.List.{List}
+use mathlib.Core.Path.{_≡_, refl, sym, ap, _∙_}
+use native.Mathlib.Omega.{arith}
+use lib.ListN.{length-append, length-replicate, replicate, drop, getD}
+use lib.Dec.{leb, eqb}
+use borrow.Author.Tests.{le-leb, leb-true}
+use Rattle.laws.specs.Choice.{and-left, and-right}
+use Rattle.laws.specs.Codec.{decRow, row-read-length}
+use Rattle.house.specs.Limits.{mostDistricts, mostJobs, leastTray}
+use Rattle.house.specs.Pairs.{noBallot, noStamp, noRow}
+use Rattle.house.specs.Plan.{planSound}
+use Rattle.house.specs.declared.Plan.{Plan}
+use Rattle.records.specs.Answers.{notSound, smallTray, unreadable, brokenRule, otherBox, answerOf, unless, orNo}
+use Rattle.records.specs.Bytes.{parse, shaped, stampsAt, rowsAt}
+use Rattle.records.specs.Fields.{ballots, stamps, rows}
+use Rattle.records.specs.Format.{known, mostKind, ballotsIn, stampsIn, rowsIn}
+use Rattle.records.specs.Outcome.{readNo, readAnswer}
+use Rattle.records.specs.Rec.{meaning}
+use Rattle.records.specs.Rules.{valid, spare, rules}
+use Rattle.records.proofs.laws.Table.{ballots-most, stamps-most, rows-most}
+use Rattle.records.specs.declared.Answer.{Answer}
+use Rattle.records.specs.declared.Answer.the-variants.{Done, No}
+use Rattle.records.specs.declared.Record.{Record}
+use Rattle.boxes.specs.Box.{ownOf}
+use Rattle.boxes.specs.Sound.{sound, boxSound}
+use Rattle.boxes.specs.Out.{Out, refused, guard, under}
+use Rattle.boxes.specs.Step.{react, takes, receives}
+use Rattle.boxes.specs.declared.BoxState.{BoxState}
+use Rattle.stays_sound.proofs.laws.Sends.{Every, every-guard, Sized}
+use Rattle.stays_sound.proofs.laws.Goods.{Keeps}
+use Rattle.stays_sound.proofs.laws.Steps.{takes-every}
+use Rattle.stays_sound.specs.Sound.{Lengths}
+use Rattle.steps.proofs.laws.Acting.{acting, guard-on}
+use Rattle.steps.specs.Judged.{judged}
+use Rattle.steps.proofs.laws.Judged.{judged-no}
+use Rattle.steps.specs.Judging.{Judging}
+
+-- ---- laws
+
+pub sound-plan : (P : Plan) (x : BoxState) → sound P x ≡ true → planSound P ≡ true
+unfolding sound
+sound-plan P x h = and-left (planSound P) (boxSound P x) h
+
+-- a guard that refuses
+pub guard-off : {t : Bool} (n : ℕ) (o : Out) → t ≡ false → guard t n o ≡ refused n
+unfolding guard
+guard-off n o e = rw e
+
+read-guards : (a b : Bool) (o : Out) → guard a unreadable (guard b brokenRule o) ≡ under (answerOf (unless a unreadable (unless b brokenRule 0))) o
+unfolding guard
+read-guards true true o = refl
+read-guards true false o = refl
+read-guards false b o = refl
+
+-- the arrays of a struct that was read have their lengths
+parse-sized : (P : Plan) (s : List ℕ) → planSound P ≡ true → Sized (parse P s)
+unfolding parse
+parse-sized P s h =
+    let b = ballots-most P (getD s 1 0) h in let t = stamps-most (getD s 1 0) in let r = rows-most P (getD s 1 0) h in
+    let k = getD s 1 0 in
+    record {
+      ballots =
+          length-append (decRow ballots (ballotsIn P k) (drop 6 s)) (replicate (mostDistricts - ballotsIn P k) noBallot)
+          ∙ rw (row-read-length ballots (ballotsIn P k) (drop 6 s), length-replicate (mostDistricts - ballotsIn P k) noBallot) (omega arith);
+      stamps =
+          length-append (decRow stamps (stampsIn k) (drop (stampsAt P k + 1) s)) (replicate (2 - stampsIn k) noStamp)
+          ∙ rw (row-read-length stamps (stampsIn k) (drop (stampsAt P k + 1) s), length-replicate (2 - stampsIn k) noStamp) (omega arith);
+      table =
+          length-append (decRow rows (rowsIn P k) (drop (rowsAt P k + 1) s)) (replicate (mostJobs - rowsIn P k) noRow)
+          ∙ rw (row-read-length rows (rowsIn P k) (drop (rowsAt P k + 1) s), length-replicate (mostJobs - rowsIn P k) noRow) (omega arith);
+    }
+
+-- whatever comes of bytes, the box stays sound and its records fit
+pub receives-every : (P : Plan) (x : BoxState) (room : ℕ) (s : List ℕ) → Lengths x → Every (Keeps P x) (receives P x room s)
+unfolding receives
+receives-every P x room s L =
+    every-guard _ _ _ (λ h. every-guard _ _ _ (λ t. every-guard _ _ _ (λ v. takes-every P x room (parse P s) L (parse-sized P s (sound-plan P x h)))))
+
+pub kind-fits : (P : Plan) (r : Record) → valid P r ≡ true → (1 ≤ r .kind) × (r .kind ≤ mostKind)
+unfolding valid known
+kind-fits P r v =
+    let k = and-left (leb 1 (r .kind) && leb (r .kind) mostKind) (spare P r && rules P (meaning r)) v in (
+      leb-true 1 (r .kind) (and-left (leb 1 (r .kind)) (leb (r .kind) mostKind) k),
+      leb-true (r .kind) mostKind (and-right (leb 1 (r .kind)) (leb (r .kind) mostKind) k),
+    )
+
+no-done : {n : ℕ} {A : Type 0} → _≡_ {A = Answer} (No n) Done → A
+no-done e = let z : _≡_ {A = ℕ} 0 1 = cc in absurd (omega arith)
+
+no-is : {n m : ℕ} → _≡_ {A = Answer} (No n) (No m) → n ≡ m
+no-is e = cc
+
+five-no : (t : Bool) (o : Out) (j : Answer) (n : ℕ) → ((m : ℕ) → j ≡ No m → o ≡ refused m) → orNo t otherBox j ≡ No n → guard t otherBox o ≡ refused n
+unfolding guard
+five-no true o j n f e = f n e
+five-no false o j n f e = ap refused (no-is e)
+
+five-done : (t : Bool) (j : Answer) → orNo t otherBox j ≡ Done → (t ≡ true) × (j ≡ Done)
+five-done true j e = (refl, e)
+five-done false j e = no-done e
+
+module _ (P : Plan) (x : BoxState) (s : List ℕ) (h : sound P x ≡ true) where
+  -- a record that the reader took: 5, or its kind's step
+  abbrev taken : Record → Out
+  taken r = guard (eqb (r .to .0) (ownOf x .0)) otherBox (react P x (meaning r))
+
+  receives-on : (room : ℕ) {b : Answer} → leastTray ≤ room → readAnswer P s ≡ b → receives P x room s ≡ under b (taken (parse P s))
+  unfolding receives takes readAnswer readNo
+  receives-on room t e =
+      let u = le-leb leastTray room t in
+      let k : takes P x room (parse P s) ≡ guard (valid P (parse P s)) brokenRule (taken (parse P s)) = guard-on notSound _ h ∙ guard-on smallTray _ u in
+      let tests = unless (shaped P s) unreadable (unless (valid P (parse P s)) brokenRule 0) in
+      let q : answerOf (unless (planSound P) notSound tests) ≡ answerOf tests = rw (sound-plan P x h) in
+      guard-on notSound _ h ∙ guard-on smallTray _ u ∙ ap (guard (shaped P s) unreadable) k
+      ∙ read-guards (shaped P s) (valid P (parse P s)) (taken (parse P s)) ∙ ap (λ (a : Answer). under a (taken (parse P s))) (sym q ∙ e)
+
+  -- bytes that the reader refuses
+  pub judging-unread : (n : ℕ) (r : Record) → readAnswer P s ≡ No n → Judging P x s (No n) r
+  judging-unread n r e =
+      record { refuse = λ m q room t. receives-on room t e ∙ ap refused (no-is q); go = λ q. no-done q; done = λ q. no-done q }
+
+  -- a record that the reader took
+  pub judging-taken : (a : Answer) (r : Record) → Lengths x → readAnswer P s ≡ Done → r ≡ parse P s → valid P r ≡ true
+      → a ≡ orNo (eqb (r .to .0) (ownOf x .0)) otherBox (judged P x (meaning r)) → Judging P x s a r
+  judging-taken a r L d e v ea =
+      let mine = eqb (r .to .0) (ownOf x .0) in
+      let o = react P x (meaning r) in
+      let Z : Sized r = rw e (parse-sized P s (sound-plan P x h)) in
+      let k : (room : ℕ) → leastTray ≤ room → receives P x room s ≡ guard mine otherBox o = λ room t. receives-on room t d ∙ ap taken (sym e) in
+      record {
+        refuse = λ n q room t. k room t ∙ five-no mine o (judged P x (meaning r)) n (judged-no P x (meaning r)) (sym ea ∙ q);
+        go = λ q room t. let f = five-done mine (judged P x (meaning r)) (sym ea ∙ q) in (k room t ∙ guard-on otherBox o (f .0), acting P x room r L Z h t v (f .0));
+        done = λ q. five-done mine (judged P x (meaning r)) (sym ea ∙ q) .1;
+      }

@@ -1,0 +1,50 @@
+// The step of a record that is not refused, whatever its kind.
+// What it does stands in specs/Step.antt of boxes.
+ghost use mathlib.Core.Path.{_≡_};
+ghost use lib.ListN.{length};
+ghost use Rattle.laws.specs.Tray.{onto};
+ghost use Rattle.records.specs.Rec.{meaning};
+ghost use Rattle.records.specs.Bytes.{encodeAll};
+ghost use Rattle.boxes.specs.Out.{resultOf, recordsOf};
+ghost use Rattle.boxes.specs.Step.{react};
+ghost use Rattle.steps.specs.Acting.{Acting};
+ghost use Rattle.steps.specs.Judged.{judged};
+use boxes::BoxState;
+use boxes::Outcome;
+use house::Plan;
+use records::Answer;
+use records::Record;
+
+// the step
+pub fn act(plan: Plan, x: BoxState, r: Record, tray: &mut [u8]) -> Outcome
+    requires { ⌜ Acting plan x r (length (now tray)) × (judged plan x (meaning r) ≡ Answer.Done) ⌝ }
+    ensures { λ o. ⌜ (o ≡ resultOf plan x (react plan x (meaning r))) × (now (tray .exit) ≡ onto (encodeAll plan (recordsOf (react plan x (meaning r)))) (now (tray .entry))) ⌝ }
+{
+    let from = r.from;
+    let job = r.job;
+    let ballots = r.ballots;
+    let stamps = r.stamps;
+    let b = ballots[0];
+    let s = stamps[0];
+    let k = r.kind;
+    match k {
+        1 => jobs::do_multicast(plan, x, job, tray),
+        2 => jobs::do_accept(plan, x, from, job, b, s, tray),
+        3 => jobs::do_accept_ack(plan, x, from, job, ballots, tray),
+        4 => {
+            let t = stamps[1];
+            jobs::do_deliver(plan, x, job, b, s, t)
+        }
+        5 => leaders::do_newleader(plan, x, from, b, tray),
+        6 => {
+            let cb = ballots[1];
+            let table = r.table;
+            leaders::do_newleader_ack(plan, x, from, b, cb, s, table, tray)
+        }
+        7 => {
+            let table = r.table;
+            leaders::do_new_state(plan, x, from, b, s, table, tray)
+        }
+        _ => leaders::do_newstate_ack(plan, x, b, tray),
+    }
+}

@@ -1,0 +1,4 @@
+-- The laws of witness.
+pub mod Example
+pub mod Common
+pub mod Harm

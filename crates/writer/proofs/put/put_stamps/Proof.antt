@@ -1,0 +1,95 @@
+-- `writer::put::put_stamps` meets its contract.
+use lib.ListN.{set, length, take, length-set}
+use Rattle.writer.proofs.laws.Sections.{count-start, count-kept, section-turn}
+use Rattle.records.specs.Bytes.{section}
+use Rattle.records.specs.Fields.{stamps}
+use Rattle.house.specs.Pairs.{noStamp}
+use Rattle.laws.specs.Tray.{onto}
+use Rattle.laws.specs.Codec.{encRow}
+use native.Mathlib.Omega.{arith}
+use Prim.Native.Nat.{_+_, _*_, _-_, _≤_}
+use mathlib.Core.Path.{_≡_, refl, _∙_}
+use borrow.Author.Needs.{needs}
+use Rattle.writer.proofs.put.put_stamps.Statement.{statement}
+use Rattle.writer.proofs.put.put_stamps.Tie as tie
+
+abbrev Inv-loop : tie.InvT-loop
+Inv-loop t₀ n l used₀ i₀ t used i = (i ≤ n) × (used ≡ 1 + i * 5) × (1 + n * 5 ≤ length t) × (length t ≡ length t₀) × (t ≡ onto (section n (encRow stamps (take i l))) t₀)
+
+abbrev μ-loop : tie.MeasureT-loop
+μ-loop t₀ n l used₀ i₀ t used i = n - i
+
+slice-write-t : tie.Need-slice-write-t Inv-loop μ-loop
+slice-write-t c = search needs
+
+loop-holds : tie.Need-loop-holds Inv-loop μ-loop
+loop-holds c = let a = c .before .args in (search needs, search needs, rw length-set (c .before .pre .1), refl, count-start (a .n) (a .t .now) (omega (arith, c .before .pre .1)))
+
+cast-at : tie.Need-cast-at Inv-loop μ-loop
+cast-at c = search needs
+
+mul-s : tie.Need-mul-s Inv-loop μ-loop
+mul-s c = search needs
+
+array-copy-out-s : tie.Need-array-copy-out-s Inv-loop μ-loop
+array-copy-out-s c = search needs
+
+sub-put-stamp : tie.Need-sub-put-stamp Inv-loop μ-loop
+sub-put-stamp c = search needs
+
+part-put-stamp-start : tie.Need-part-put-stamp-start Inv-loop μ-loop
+part-put-stamp-start c = search needs
+
+part-put-stamp-end : tie.Need-part-put-stamp-end Inv-loop μ-loop
+part-put-stamp-end c = search needs
+
+put-stamp-requires : tie.Need-put-stamp-requires Inv-loop μ-loop
+put-stamp-requires c κs = search needs
+
+add-used : tie.Need-add-used Inv-loop μ-loop
+add-used c = search needs
+
+add-i : tie.Need-add-i Inv-loop μ-loop
+add-i c = search needs
+
+loop-less : tie.Need-loop-less Inv-loop μ-loop
+loop-less c = search needs
+
+loop-again : tie.Need-loop-again Inv-loop μ-loop
+unfolding stamps
+loop-again c =
+    let a = c .before .before .before .before .before .before .before .before .args in let l = c .before .before .before .before .before .before .loop in let q = c .before .before .put-stamp in
+    let long : length (a .t2) ≡ 2 = search needs in
+    let s = section-turn stamps (a .n) (a .t2) (l .i) noStamp (set (a .t .now) 0 (a .n)) (l .t) (q .last .0) (l .used) (q .result) (omega (arith, long, c .before .before .before .before .before .before .before .before .pre)) (l .inv .1) (q .ensures .0) (l .inv .4) (q .ensures .1) in
+    let g = c .before .t .given .1 in
+    (omega arith, s .0, rw g (l .inv .2), g ∙ l .inv .3, s .1)
+
+same-length : tie.Need-same-length Inv-loop μ-loop
+same-length c = let a = c .before .before .before .args in c .before .loop .inv .3 ∙ length-set (a .t .now) 0 (a .n)
+
+returns : tie.Need-returns Inv-loop μ-loop
+returns c =
+    let a = c .before .before .before .args in let l = c .before .loop in let e : l .i ≡ a .n = omega arith in
+    (rw (← e) (l .inv .1), l .inv .4 ∙ count-kept (a .n) (encRow stamps (take (l .i) (a .t2))) (a .t .now) ∙ rw e)
+
+pub put-stamps-spec : {M : Type 1} → statement M
+put-stamps-spec =
+    tie.close
+    (tie.spec
+    Inv-loop
+    μ-loop
+    slice-write-t
+    loop-holds
+    cast-at
+    mul-s
+    array-copy-out-s
+    sub-put-stamp
+    part-put-stamp-start
+    part-put-stamp-end
+    put-stamp-requires
+    add-used
+    add-i
+    loop-less
+    loop-again
+    same-length
+    returns)
