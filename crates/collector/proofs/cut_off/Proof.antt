@@ -8,18 +8,9 @@ use borrow.Author.Needs.{needs}
 use Rattle.collector.proofs.cut_off.Statement.{statement}
 use Rattle.collector.proofs.cut_off.Tie as tie
 
-is-sound-requires : tie.Need-is-sound-requires
-is-sound-requires c κs = search needs
-
-refused-requires : tie.Need-refused-requires
-refused-requires c κs = search needs
-
 returns : tie.Need-returns
 unfolding cutOff guard
 returns c = says-result (rw (sym (c .before .before .is-sound .ensures) ∙ c .before .if1 .left) (c .refused .ensures))
-
-cut-box-requires : tie.Need-cut-box-requires
-cut-box-requires c κs = search needs
 
 returns-2 : tie.Need-returns-2
 unfolding cutOff guard
@@ -28,4 +19,4 @@ returns-2 c =
     says-result (rw (sym (s .is-sound .ensures) ∙ c .before .if1 .taken, c .cut-box .ensures, encode-none (s .before .args .plan)))
 
 pub cut-off-spec : {M : Type 1} → statement M
-cut-off-spec = tie.close (tie.spec is-sound-requires refused-requires returns cut-box-requires returns-2)
+cut-off-spec = tie.close (tie.spec (λ c κs. search needs) (λ c κs. search needs) returns (λ c κs. search needs) returns-2)

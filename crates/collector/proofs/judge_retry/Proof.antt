@@ -5,18 +5,6 @@ use borrow.Author.Needs.{needs}
 use Rattle.collector.proofs.judge_retry.Statement.{statement}
 use Rattle.collector.proofs.judge_retry.Tie as tie
 
-admit-requires : tie.Need-admit-requires
-admit-requires c κs = search needs
-
-enum-known-first : tie.Need-enum-known-first
-enum-known-first c = search needs
-
-enum-told : tie.Need-enum-told
-enum-told c = search needs
-
-decide-retry-requires : tie.Need-decide-retry-requires
-decide-retry-requires c κs = search needs
-
 returns : tie.Need-returns
 returns c =
     let m = c .before .before .before in let s = m .before in let a = s .args in
@@ -28,4 +16,4 @@ returns-2 c =
     retry-on (a .plan) (a .x) (s .pre) (a .job) (sym (m .admit .ensures) ∙ c .before .enum-told .given .1) (c .decide-retry .ensures)
 
 pub judge-retry-spec : {M : Type 1} → statement M
-judge-retry-spec = tie.close (tie.spec admit-requires enum-known-first returns enum-told decide-retry-requires returns-2)
+judge-retry-spec = tie.close (tie.spec (λ c κs. search needs) (λ c. search needs) returns (λ c. search needs) (λ c κs. search needs) returns-2)

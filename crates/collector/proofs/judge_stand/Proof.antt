@@ -8,18 +8,6 @@ use borrow.Author.Needs.{needs}
 use Rattle.collector.proofs.judge_stand.Statement.{statement}
 use Rattle.collector.proofs.judge_stand.Tie as tie
 
-admit-requires : tie.Need-admit-requires
-admit-requires c κs = search needs
-
-enum-known-first : tie.Need-enum-known-first
-enum-known-first c = search needs
-
-enum-told : tie.Need-enum-told
-enum-told c = search needs
-
-decide-stand-requires : tie.Need-decide-stand-requires
-decide-stand-requires c κs = search needs
-
 returns : tie.Need-returns
 returns c =
     let m = c .before .before .before in let s = m .before in let a = s .args in
@@ -31,4 +19,4 @@ returns-2 c =
     (stand-on (a .plan) (a .x) (s .pre) (sym (m .admit .ensures) ∙ c .before .enum-told .given .1) e, λ q. stand-room (a .x) (sym e ∙ q))
 
 pub judge-stand-spec : {M : Type 1} → statement M
-judge-stand-spec = tie.close (tie.spec admit-requires enum-known-first returns enum-told decide-stand-requires returns-2)
+judge-stand-spec = tie.close (tie.spec (λ c κs. search needs) (λ c. search needs) returns (λ c. search needs) (λ c κs. search needs) returns-2)

@@ -13,26 +13,11 @@ use borrow.Author.Needs.{needs}
 use Rattle.collector.proofs.receive.Statement.{statement}
 use Rattle.collector.proofs.receive.Tie as tie
 
-is-sound-requires : tie.Need-is-sound-requires
-is-sound-requires c κs = search needs
-
-admit-requires : tie.Need-admit-requires
-admit-requires c κs = search needs
-
-enum-known-first : tie.Need-enum-known-first
-enum-known-first c = search needs
-
-refused-requires : tie.Need-refused-requires
-refused-requires c κs = search needs
-
 returns : tie.Need-returns
 returns c =
     let m = c .before .before .before .before in let a = m .before .before .before .before .args in
     let e = sym (m .admit .ensures) ∙ c .before .before .first .given .1 in
     refusing (c .refused .ensures) (receives-refused (a .plan) (a .x) (length (a .tray .now)) (a .bytes .now) (m .before .is-sound .ensures) e)
-
-enum-told : tie.Need-enum-told
-enum-told c = search needs
 
 -- not refused by 1 or 2
 admitted : (c : tie.After-enum-told) → let a = c .before .before .before .before .before .before .args in
@@ -40,38 +25,32 @@ admitted : (c : tie.After-enum-told) → let a = c .before .before .before .befo
 admitted c = two-go _ (c .before .before .before .is-sound .ensures) (sym (c .before .before .admit .ensures) ∙ c .enum-told .given .1)
 
 read-bytes-requires : tie.Need-read-bytes-requires
-read-bytes-requires c κs = let a = c .before .before .before .before .before .before .args in sound-plan (a .plan) (a .x) (admitted c .0)
+read-bytes-requires c κs =
+    let a = c .before .before .before .before .before .before .args in
+    sound-plan (a .plan) (a .x) (admitted c .0)
 
 judge-read-requires : tie.Need-judge-read-requires
 judge-read-requires c κs =
-    let a = c .before .before .before .before .before .before .before .before .args in (admitted (c .before .before) .0, (a .bytes .now, c .before .read-bytes .ensures))
+    let at-1 = c .before in
+    let read-bytes-says = at-1 .read-bytes .ensures in
+    let at-7 = at-1 .before .before .before .before .before .before in
+    let a = at-7 .before .args in
+    (admitted (c .before .before) .0, (a .bytes .now, read-bytes-says))
 
 -- what the bytes come to
 judging : (c : tie.After-judge-read) → let a = c .before .before .before .before .before .before .before .before .before .args in
     Judging (a .plan) (a .x) (a .bytes .now) (c .judge-read .result) (c .before .before .read-bytes .result .rec)
 judging c = c .judge-read .ensures _ (c .before .before .read-bytes .ensures)
 
-enum-known-answer : tie.Need-enum-known-answer
-enum-known-answer c = search needs
-
-refused-requires-2 : tie.Need-refused-requires-2
-refused-requires-2 c κs = search needs
-
 returns-2 : tie.Need-returns-2
 returns-2 c =
     let j = c .before .before .before .before in
     refusing (c .refused2 .ensures) (judging j .refuse _ (c .before .before .answer .given .1) _ (admitted (j .before .before .before) .1))
 
-enum-told-2 : tie.Need-enum-told-2
-enum-told-2 c = search needs
-
 act-requires : tie.Need-act-requires
 act-requires c κs =
     let j = c .before .before .before in let d = c .before .enum-told2 .given .1 in
     (judging j .go d _ (admitted (j .before .before .before) .1) .1, judging j .done d)
-
-same-length : tie.Need-same-length
-same-length c = search needs
 
 returns-3 : tie.Need-returns-3
 returns-3 c =
@@ -84,18 +63,18 @@ pub receive-spec : {M : Type 1} → statement M
 receive-spec =
     tie.close
     (tie.spec
-    is-sound-requires
-    admit-requires
-    enum-known-first
-    refused-requires
+    (λ c κs. search needs)
+    (λ c κs. search needs)
+    (λ c. search needs)
+    (λ c κs. search needs)
     returns
-    enum-told
+    (λ c. search needs)
     read-bytes-requires
     judge-read-requires
-    enum-known-answer
-    refused-requires-2
+    (λ c. search needs)
+    (λ c κs. search needs)
     returns-2
-    enum-told-2
+    (λ c. search needs)
     act-requires
-    same-length
+    (λ c. search needs)
     returns-3)

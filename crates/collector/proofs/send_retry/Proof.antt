@@ -8,19 +8,13 @@ use borrow.Author.Needs.{needs}
 use Rattle.collector.proofs.send_retry.Statement.{statement}
 use Rattle.collector.proofs.send_retry.Tie as tie
 
-enum-told : tie.Need-enum-told
-enum-told c = search needs
-
-enum-told-2 : tie.Need-enum-told-2
-enum-told-2 c = search needs
-
-multicast-record-requires : tie.Need-multicast-record-requires
-multicast-record-requires c κs = search needs
-
 -- the records are those that a send of this one writes
 sent : (c : tie.After-multicast-record) → let a = c .before .before .before .before .before .before .args in
     Sends (a .plan) (retries (a .plan) (a .x) (a .job)) (c .multicast-record .result)
-sent c = let a = c .before .before .before .before .before .before .args in retries-sent (a .plan) (a .x) (a .job) _ (c .multicast-record .ensures)
+sent c =
+    let multicast-record-says = c .multicast-record .ensures in
+    let a = c .before .before .before .before .before .before .args in
+    retries-sent (a .plan) (a .x) (a .job) _ (multicast-record-says)
 
 send-requires : tie.Need-send-requires
 send-requires c κs =
@@ -30,13 +24,10 @@ send-requires c κs =
 returns : tie.Need-returns
 returns c = none-written _ (c .enum-told .given .1)
 
-same-length : tie.Need-same-length
-same-length c = search needs
-
 returns-2 : tie.Need-returns-2
 returns-2 c =
     let q = c .before .before .send .ensures in let m = c .before .before .before .before in
     all-written (m .before .before .before .enum-told2 .given .1) (sent m) (q .0) (q .1) (q .2)
 
 pub send-retry-spec : {M : Type 1} → statement M
-send-retry-spec = tie.close (tie.spec enum-told enum-told-2 multicast-record-requires send-requires returns same-length returns-2)
+send-retry-spec = tie.close (tie.spec (λ c. search needs) (λ c. search needs) (λ c κs. search needs) send-requires returns (λ c. search needs) returns-2)

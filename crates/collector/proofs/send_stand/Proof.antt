@@ -8,19 +8,18 @@ use borrow.Author.Needs.{needs}
 use Rattle.collector.proofs.send_stand.Statement.{statement}
 use Rattle.collector.proofs.send_stand.Tie as tie
 
-enum-told : tie.Need-enum-told
-enum-told c = search needs
-
-enum-told-2 : tie.Need-enum-told-2
-enum-told-2 c = search needs
-
 stand-record-requires : tie.Need-stand-record-requires
-stand-record-requires c κs = c .before .before .before .before .before .pre .1 (c .before .before .enum-told2 .given .1)
+stand-record-requires c κs =
+    let asked = c .before .before .before .before .before .pre in
+    asked .1 (c .before .before .enum-told2 .given .1)
 
 -- the records are those that a send of this one writes
 sent : (c : tie.After-stand-record) → let a = c .before .before .before .before .before .before .args in
     Sends (a .plan) (standing (a .plan) (a .x)) (c .stand-record .result)
-sent c = let a = c .before .before .before .before .before .before .args in standing-sent (a .plan) (a .x) _ (c .stand-record .ensures)
+sent c =
+    let stand-record-says = c .stand-record .ensures in
+    let a = c .before .before .before .before .before .before .args in
+    standing-sent (a .plan) (a .x) _ (stand-record-says)
 
 send-requires : tie.Need-send-requires
 send-requires c κs =
@@ -30,13 +29,10 @@ send-requires c κs =
 returns : tie.Need-returns
 returns c = none-written _ (c .enum-told .given .1)
 
-same-length : tie.Need-same-length
-same-length c = search needs
-
 returns-2 : tie.Need-returns-2
 returns-2 c =
     let q = c .before .before .send .ensures in let m = c .before .before .before .before in
     all-written (m .before .before .before .enum-told2 .given .1) (sent m) (q .0) (q .1) (q .2)
 
 pub send-stand-spec : {M : Type 1} → statement M
-send-stand-spec = tie.close (tie.spec enum-told enum-told-2 stand-record-requires send-requires returns same-length returns-2)
+send-stand-spec = tie.close (tie.spec (λ c. search needs) (λ c. search needs) stand-record-requires send-requires returns (λ c. search needs) returns-2)

@@ -61,9 +61,11 @@ add-n c = search needs
 
 cast-index : tie.Need-cast-index Inv-loop μ-loop
 cast-index c =
-    let a = c .before .before .before .before .before .before .before .args in
-    let l = c .before .before .before .before .loop in let v = c .before .next-start .result in
-    let g = goes-on (l .n) (length (l .index)) (getD (l .index) (l .n) 0) v (a .used) (c .if1 .taken) in
+    let if1-taken = c .if1 .taken in
+    let v = c .before .next-start .result in
+    let at-4 = c .before .before .before .before in
+    let a = at-4 .before .before .before .args in
+    let l = at-4 .loop in let g = goes-on (l .n) (length (l .index)) (getD (l .index) (l .n) 0) v (a .used) (if1-taken) in
     omega (arith, g .3)
 
 mul-index : tie.Need-mul-index Inv-loop μ-loop
@@ -71,18 +73,23 @@ mul-index c = search needs
 
 slice-write-index : tie.Need-slice-write-index Inv-loop μ-loop
 slice-write-index c =
-    let a = c .before .before .before .before .before .before .before .args in
-    let l = c .before .before .before .before .loop in let v = c .before .next-start .result in
-    goes-on (l .n) (length (l .index)) (getD (l .index) (l .n) 0) v (a .used) (c .if1 .taken) .0
+    let if1-taken = c .if1 .taken in
+    let v = c .before .next-start .result in
+    let at-4 = c .before .before .before .before in
+    let a = at-4 .before .before .before .args in
+    let l = at-4 .loop in goes-on (l .n) (length (l .index)) (getD (l .index) (l .n) 0) v (a .used) (if1-taken) .0
 
 loop-less : tie.Need-loop-less Inv-loop μ-loop
 loop-less c = search needs
 
 loop-again : tie.Need-loop-again Inv-loop μ-loop
 loop-again c =
-    let a = c .before .before .before .before .before .before .before .args in let l = c .before .before .before .before .loop in
+    let if1-taken = c .if1 .taken in
+    let at-4 = c .before .before .before .before in
+    let a = at-4 .before .before .before .args in
+    let l = at-4 .loop in
     let q = c .before .next-start in let v = q .result in let at = getD (l .index) (l .n) 0 in let u = a .used in
-    let g = goes-on (l .n) (length (l .index)) at v u (c .if1 .taken) in (
+    let g = goes-on (l .n) (length (l .index)) at v u (if1-taken) in (
       indexed-more (a .plan) (a .s .now) u (l .index) (l .n) (l .inv .0) at v (g .0) refl (g .1) (q .ensures .0) (g .2),
       omega (arith, l .inv .1),
       length-set (l .index) (l .n + 1) v ∙ l .inv .2,

@@ -9,60 +9,54 @@ use borrow.Author.Needs.{needs}
 use Rattle.post.proofs.find_start.Statement.{statement}
 use Rattle.post.proofs.find_start.Tie as tie
 
-mul-result : tie.Need-mul-result
-mul-result c = search needs
-
-shared-slice-read-result : tie.Need-shared-slice-read-result
-shared-slice-read-result c = search needs
-
 cast-result : tie.Need-cast-result
-cast-result c = let f = c .shared-slice-known3 .given (c .before .before .before .before .args .k) in omega (arith, f)
+cast-result c =
+    let given-2 = c .before .before .before .before .args in
+    let f = c .shared-slice-known3 .given (given-2 .k) in omega (arith, f)
 
 returns : tie.Need-returns
 returns c =
-    let a = c .before .before .before .before .args in let f = c .shared-slice-known3 .given (a .k) in
-    (c .before .before .before .before .pre .starts (a .k) (c .before .if1 .taken), omega (arith, f))
-
-mul-at : tie.Need-mul-at
-mul-at c = search needs
-
-shared-slice-read-at : tie.Need-shared-slice-read-at
-shared-slice-read-at c = search needs
+    let if1-taken = c .before .if1 .taken in
+    let a = c .before .before .before .before .args in
+    let asked = c .before .before .before .before .pre in
+    let f = c .shared-slice-known3 .given (a .k) in
+    (asked .starts (a .k) (if1-taken), omega (arith, f))
 
 cast-at : tie.Need-cast-at
-cast-at c = let f = c .shared-slice-known4 .given (c .before .before .before .before .args .count) in omega (arith, f)
-
-cast-start-from : tie.Need-cast-start-from
-cast-start-from c = search needs
-
-sub-start-from : tie.Need-sub-start-from
-sub-start-from c = search needs
+cast-at c =
+    let given-2 = c .before .before .before .before .args in
+    let f = c .shared-slice-known4 .given (given-2 .count) in omega (arith, f)
 
 start-from-requires : tie.Need-start-from-requires
-start-from-requires c κs = let f = c .shared-slice-known4 .given (c .before .before .before .before .args .count) in omega (arith, f)
+start-from-requires c κs =
+    let given-2 = c .before .before .before .before .args in
+    let f = c .shared-slice-known4 .given (given-2 .count) in omega (arith, f)
 
 returns-2 : tie.Need-returns-2
 returns-2 c =
-    let a = c .before .before .before .before .before .args in let q = c .start-from in
+    let if1-left = c .before .before .if1 .left in
+    let a = c .before .before .before .before .before .args in
+    let asked = c .before .before .before .before .before .pre in
+    let q = c .start-from in
     let P = a .plan in let s = a .s .now in let u = a .used in let m = a .k - a .count in let at = getD (a .index .now) (a .count) 0 in
-    let h : a .count < a .k = c .before .before .if1 .left in
+    let h : a .count < a .k = if1-left in
     let e : a .count + m ≡ a .k = omega (arith, h) in
     let w : q .result ≡ walkFrom P s u at m = q .ensures .0 in
-    let i : at ≡ startOf P s u (a .count) = c .before .before .before .before .before .pre .starts (a .count) (omega arith) in
+    let i : at ≡ startOf P s u (a .count) = asked .starts (a .count) (omega arith) in
     (w ∙ ap (λ (z : ℕ). walkFrom P s u z m) i ∙ start-more P s u (a .count) m ∙ ap (startOf P s u) e, q .ensures .1)
 
 pub find-start-spec : {M : Type 1} → statement M
 find-start-spec =
     tie.close
     (tie.spec
-    mul-result
-    shared-slice-read-result
+    (λ c. search needs)
+    (λ c. search needs)
     cast-result
     returns
-    mul-at
-    shared-slice-read-at
+    (λ c. search needs)
+    (λ c. search needs)
     cast-at
-    cast-start-from
-    sub-start-from
+    (λ c. search needs)
+    (λ c. search needs)
     start-from-requires
     returns-2)

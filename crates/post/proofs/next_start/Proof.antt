@@ -8,21 +8,13 @@ use borrow.Author.Needs.{needs}
 use Rattle.post.proofs.next_start.Statement.{statement}
 use Rattle.post.proofs.next_start.Tie as tie
 
-add-byte-at : tie.Need-add-byte-at
-add-byte-at c = search needs
-
-byte-at-requires : tie.Need-byte-at-requires
-byte-at-requires c κs = search needs
-
-length-of-requires : tie.Need-length-of-requires
-length-of-requires c κs = search needs
-
-add-result : tie.Need-add-result
-add-result c = search needs
-
 returns : tie.Need-returns
 unfolding nextStart lengthAt
-returns c = (rw (c .length-of .ensures .0, c .before .byte-at .ensures) (sym (pick-true _ _ (lt-ltb _ _ (c .before .before .if1 .taken)))), omega (arith, c .length-of .ensures .1))
+returns c =
+    let length-of-says = c .length-of .ensures in
+    let byte-at-says = c .before .byte-at .ensures in
+    let if1-taken = c .before .before .if1 .taken in
+    (rw (length-of-says .0, byte-at-says) (sym (pick-true _ _ (lt-ltb _ _ (if1-taken)))), omega (arith, length-of-says .1))
 
 returns-2 : tie.Need-returns-2
 unfolding nextStart
@@ -31,4 +23,4 @@ returns-2 c = (sym (pick-false _ _ (le-ltb _ _ (c .if1 .left))), omega arith)
 pub next-start-spec : {M : Type 1} → statement M
 next-start-spec =
     tie.close
-    (tie.spec add-byte-at byte-at-requires length-of-requires add-result returns returns-2)
+    (tie.spec (λ c. search needs) (λ c κs. search needs) (λ c κs. search needs) (λ c. search needs) returns returns-2)

@@ -25,10 +25,12 @@ loop-holds c =
 
 returns : tie.Need-returns Inv-loop μ-loop
 returns c =
-    let a = c .before .before .before .before .args in let l = c .before .before .loop in
+    let if1-taken = c .if1 .taken in
+    let a = c .before .before .before .before .args in
+    let l = c .before .before .loop in
     let P = a .plan in let s = a .s .now in let u = a .used in let m = a .k - l .i in
     let e : l .i + m ≡ a .k = omega (arith, l .inv .0) in
-    let y : l .at ≡ walkFrom P s u (l .at) m = sym (walk-stays P s u (l .at) m (c .if1 .taken)) in
+    let y : l .at ≡ walkFrom P s u (l .at) m = sym (walk-stays P s u (l .at) m (if1-taken)) in
     let w : l .at ≡ walkFrom P s u (a .from) (l .i + m) = y ∙ ap (λ (z : ℕ). walkFrom P s u z m) (l .inv .1) ∙ walk-more P s u (a .from) (l .i) m in
     (w ∙ ap (walkFrom P s u (a .from)) e, omega (arith, l .inv .2, l .inv .0, l .inv .3, l .inv .4))
 
@@ -43,7 +45,8 @@ loop-less c = search needs
 
 loop-again : tie.Need-loop-again Inv-loop μ-loop
 loop-again c =
-    let a = c .before .before .before .before .before .args in let l = c .before .before .before .loop in let q = c .next-start in
+    let a = c .before .before .before .before .before .args in
+    let l = c .before .before .before .loop in let q = c .next-start in
     let P = a .plan in let s = a .s .now in let u = a .used in (
       omega arith,
       q .ensures .0 ∙ ap (nextStart P s u) (l .inv .1) ∙ walk-step P s u (a .from) (l .i),

@@ -4,12 +4,9 @@ use borrow.Author.Needs.{needs}
 use Rattle.post.proofs.start_of.Statement.{statement}
 use Rattle.post.proofs.start_of.Tie as tie
 
-start-from-requires : tie.Need-start-from-requires
-start-from-requires c κs = search needs
-
 returns : tie.Need-returns
 unfolding startOf
 returns c = (c .start-from .ensures .0, c .start-from .ensures .1)
 
 pub start-of-spec : {M : Type 1} → statement M
-start-of-spec = tie.close (tie.spec start-from-requires returns)
+start-of-spec = tie.close (tie.spec (λ c κs. search needs) returns)

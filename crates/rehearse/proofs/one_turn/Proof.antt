@@ -13,50 +13,27 @@ use borrow.Author.Needs.{needs}
 use Rattle.rehearse.proofs.one_turn.Statement.{statement}
 use Rattle.rehearse.proofs.one_turn.Tie as tie
 
-slice-aggregate-read : tie.Need-slice-aggregate-read
-slice-aggregate-read c = search needs
-
-read-requires : tie.Need-read-requires
-read-requires c κs = search needs
-
-slice-aggregate-count : tie.Need-slice-aggregate-count
-slice-aggregate-count c = search needs
-
-count-requires : tie.Need-count-requires
-count-requires c κs = search needs
-
-feed-chunk-requires : tie.Need-feed-chunk-requires
-feed-chunk-requires c κs = search needs
-
-sub-write-all : tie.Need-sub-write-all
-sub-write-all c = search needs
-
-part-write-all-start : tie.Need-part-write-all-start
-part-write-all-start c = search needs
-
 part-write-all-end : tie.Need-part-write-all-end
 part-write-all-end c =
     let f = c .before .before .before .feed-chunk in text-fits _ _ _ (f .result .used) (ap (λ (x : Fed). x .used) (f .ensures .fed)) (f .ensures .text)
 
-write-all-requires : tie.Need-write-all-requires
-write-all-requires c κs = search needs
-
-next-of-requires : tie.Need-next-of-requires
-next-of-requires c κs = search needs
-
-same-length : tie.Need-same-length
-same-length c = search needs
-
 returns : tie.Need-returns
 returns c =
-    let a = c .before .before .before .before .before .before .before .before .before .before .before .before .before .before .before .before .before .args in
-    let q = c .before .before .before .before .before .before .before .before .before .before .before .before .before .before .read in
-    let f = c .before .before .before .before .before .before .before .feed-chunk .ensures in
+    let next-of-says = c .next-of .ensures in
+    let at-2 = c .before .before in
+    let write-all-result = at-2 .write-all .result in
+    let at-7 = at-2 .before .before .before .before .before in
+    let f = at-7 .feed-chunk .ensures in
+    let at-11 = at-7 .before .before .before .before in
+    let count-says = at-11 .count .ensures in
+    let at-14 = at-11 .before .before .before in
+    let a = at-14 .before .before .before .args in
+    let q = at-14 .read in
     let tray = q .last .1 .0 in
-    let e = ap (λ (n : ℕ). chunkOf (a .s) (a .post .now) (take n tray)) (c .before .before .before .before .before .before .before .before .before .before .before .count .ensures .1) in
+    let e = ap (λ (n : ℕ). chunkOf (a .s) (a .post .now) (take n tray)) (count-says .1) in
     record {
-      turn = record { got = toZ w64 (ofZ w64 (q .result)); tray = tray; written = c .before .before .write-all .result };
-      decided = c .next-of .ensures;
+      turn = record { got = toZ w64 (ofZ w64 (q .result)); tray = tray; written = write-all-result };
+      decided = next-of-says;
       session = ap (λ (x : Fed). x .session) (f .fed) ∙ ap sessionOf e;
       post = f .post ∙ ap (λ (r : Reading World). r .state .post) e;
     }
@@ -65,15 +42,15 @@ pub one-turn-spec : {M : Type 1} → statement M
 one-turn-spec =
     tie.close
     (tie.spec
-    slice-aggregate-read
-    read-requires
-    slice-aggregate-count
-    count-requires
-    feed-chunk-requires
-    sub-write-all
-    part-write-all-start
+    (λ c. search needs)
+    (λ c κs. search needs)
+    (λ c. search needs)
+    (λ c κs. search needs)
+    (λ c κs. search needs)
+    (λ c. search needs)
+    (λ c. search needs)
     part-write-all-end
-    write-all-requires
-    next-of-requires
-    same-length
+    (λ c κs. search needs)
+    (λ c κs. search needs)
+    (λ c. search needs)
     returns)

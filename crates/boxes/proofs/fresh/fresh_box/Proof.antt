@@ -4,32 +4,23 @@ use borrow.Author.Needs.{needs}
 use Rattle.boxes.proofs.fresh.fresh_box.Statement.{statement}
 use Rattle.boxes.proofs.fresh.fresh_box.Tie as tie
 
-no-row-requires : tie.Need-no-row-requires
-no-row-requires c κs = search needs
-
-no-stamp-requires : tie.Need-no-stamp-requires
-no-stamp-requires c κs = search needs
-
-no-ballot-requires : tie.Need-no-ballot-requires
-no-ballot-requires c κs = search needs
-
-no-ballot-requires-2 : tie.Need-no-ballot-requires-2
-no-ballot-requires-2 c κs = search needs
-
-fresh-volatile-requires : tie.Need-fresh-volatile-requires
-fresh-volatile-requires c κs = search needs
-
 returns : tie.Need-returns
 unfolding fresh
-returns c = rw (c .fresh-volatile .ensures, c .before .no-ballot2 .ensures, c .before .before .no-ballot .ensures, c .before .before .before .no-stamp .ensures, c .before .before .before .before .no-row .ensures)
+returns c =
+    let fresh-volatile-says = c .fresh-volatile .ensures in
+    let no-ballot2-says = c .before .no-ballot2 .ensures in
+    let no-ballot-says = c .before .before .no-ballot .ensures in
+    let no-stamp-says = c .before .before .before .no-stamp .ensures in
+    let no-row-says = c .before .before .before .before .no-row .ensures in
+    rw (fresh-volatile-says, no-ballot2-says, no-ballot-says, no-stamp-says, no-row-says)
 
 pub fresh-box-spec : {M : Type 1} → statement M
 fresh-box-spec =
     tie.close
     (tie.spec
-    no-row-requires
-    no-stamp-requires
-    no-ballot-requires
-    no-ballot-requires-2
-    fresh-volatile-requires
+    (λ c κs. search needs)
+    (λ c κs. search needs)
+    (λ c κs. search needs)
+    (λ c κs. search needs)
+    (λ c κs. search needs)
     returns)

@@ -3,14 +3,8 @@ use borrow.Author.Needs.{needs}
 use Rattle.boxes.proofs.fresh.no_vote.Statement.{statement}
 use Rattle.boxes.proofs.fresh.no_vote.Tie as tie
 
-no-row-requires : tie.Need-no-row-requires
-no-row-requires c κs = search needs
-
-no-ballot-requires : tie.Need-no-ballot-requires
-no-ballot-requires c κs = search needs
-
 returns : tie.Need-returns
 returns c = rw (c .no-ballot .ensures, c .before .no-row .ensures)
 
 pub no-vote-spec : {M : Type 1} → statement M
-no-vote-spec = tie.close (tie.spec no-row-requires no-ballot-requires returns)
+no-vote-spec = tie.close (tie.spec (λ c κs. search needs) (λ c κs. search needs) returns)

@@ -17,10 +17,12 @@ returns-4 c = rw (c .before .before .before .if1 .taken, c .before .before .if2 
 
 returns-5 : tie.Need-returns-5
 returns-5 c =
-    rw (c .before .before .before .before .if1 .taken, c .before .before .before .if2 .taken, c .before .before .if3 .taken, c .before .if4 .taken, c .if5 .left)
-
-returns-6 : tie.Need-returns-6
-returns-6 c = search needs
+    let if5-left = c .if5 .left in
+    let if4-taken = c .before .if4 .taken in
+    let if3-taken = c .before .before .if3 .taken in
+    let if2-taken = c .before .before .before .if2 .taken in
+    let if1-taken = c .before .before .before .before .if1 .taken in
+    rw (if1-taken, if2-taken, if3-taken, if4-taken, if5-left)
 
 pub in-order-spec : {M : Type 1} → statement M
-in-order-spec = tie.close (tie.spec returns returns-2 returns-3 returns-4 returns-5 returns-6)
+in-order-spec = tie.close (tie.spec returns returns-2 returns-3 returns-4 returns-5 (λ c. search needs))

@@ -10,31 +10,16 @@ use borrow.Author.Needs.{needs}
 use Rattle.boxes.proofs.look.kept_ballot.Statement.{statement}
 use Rattle.boxes.proofs.look.kept_ballot.Tie as tie
 
-mul-at : tie.Need-mul-at
-mul-at c = search needs
-
-cast-at : tie.Need-cast-at
-cast-at c = search needs
-
-add-at : tie.Need-add-at
-add-at c = search needs
-
-no-ballot-requires : tie.Need-no-ballot-requires
-no-ballot-requires c κs = search needs
-
 returns : tie.Need-returns
 unfolding keptBallot keptAt
 returns c =
+    let no-ballot-says = c .no-ballot .ensures in
+    let if1-taken = c .before .if1 .taken in
     let a = c .before .before .before .args in
     -- owning a box says how many ballots it keeps
-    let n : length (a .x .volatile .«kept_ballots») ≡ 256 = long-map _ _ _ (a .x .volatile .«kept_ballots») 256 (c .before .before .before .good .0 .1 .1 .1 .0 .1 .1 .0 .1 .0 .1) in
-    c .no-ballot .ensures ∙ sym (List·getD-eq-default (a .x .volatile .«kept_ballots») noBallot {n = a .job * 4 + a .d .0} (omega (arith, n, c .before .if1 .taken)))
-
-mul-result : tie.Need-mul-result
-mul-result c = search needs
-
-array-copy-out-result : tie.Need-array-copy-out-result
-array-copy-out-result c = search needs
+    let n : length (a .x .volatile .«kept_ballots») ≡ 256 =
+    long-map _ _ _ (a .x .volatile .«kept_ballots») 256 (c .before .before .before .good .0 .1 .1 .1 .0 .1 .1 .0 .1 .0 .1) in
+    no-ballot-says ∙ sym (List·getD-eq-default (a .x .volatile .«kept_ballots») noBallot {n = a .job * 4 + a .d .0} (omega (arith, n, if1-taken)))
 
 returns-2 : tie.Need-returns-2
 unfolding keptBallot keptAt
@@ -44,11 +29,11 @@ pub kept-ballot-spec : {M : Type 1} → statement M
 kept-ballot-spec =
     tie.close
     (tie.spec
-    mul-at
-    cast-at
-    add-at
-    no-ballot-requires
+    (λ c. search needs)
+    (λ c. search needs)
+    (λ c. search needs)
+    (λ c κs. search needs)
     returns
-    mul-result
-    array-copy-out-result
+    (λ c. search needs)
+    (λ c. search needs)
     returns-2)

@@ -8,22 +8,16 @@ use borrow.Author.Needs.{needs}
 use Rattle.boxes.proofs.look.listed_at.Statement.{statement}
 use Rattle.boxes.proofs.look.listed_at.Tie as tie
 
-no-stamp-requires : tie.Need-no-stamp-requires
-no-stamp-requires c κs = search needs
-
 returns : tie.Need-returns
 unfolding listedAt
 returns c =
+    let no-stamp-says = c .no-stamp .ensures in
+    let if1-taken = c .before .if1 .taken in
     let a = c .before .before .args in
     -- owning a box says how long its list is
-    let n : length (a .x .core .list) ≡ 64 = long-map _ _ _ (a .x .core .list) 64 (c .before .before .good .0 .1 .1 .0 .1 .1 .1 .1 .1 .1 .1 .1 .1 .1 .0 .1 .0 .1) in
-    rw (c .no-stamp .ensures) (sym (List·getD-eq-default (a .x .core .list) noListed {n = a .i} (omega (arith, n, c .before .if1 .taken))))
-
-mul-result : tie.Need-mul-result
-mul-result c = search needs
-
-array-copy-out-result : tie.Need-array-copy-out-result
-array-copy-out-result c = search needs
+    let n : length (a .x .core .list) ≡ 64 =
+    long-map _ _ _ (a .x .core .list) 64 (c .before .before .good .0 .1 .1 .0 .1 .1 .1 .1 .1 .1 .1 .1 .1 .1 .0 .1 .0 .1) in
+    rw (no-stamp-says) (sym (List·getD-eq-default (a .x .core .list) noListed {n = a .i} (omega (arith, n, if1-taken))))
 
 returns-2 : tie.Need-returns-2
 unfolding listedAt
@@ -31,4 +25,4 @@ returns-2 c = refl
 
 pub listed-at-spec : {M : Type 1} → statement M
 listed-at-spec =
-    tie.close (tie.spec no-stamp-requires returns mul-result array-copy-out-result returns-2)
+    tie.close (tie.spec (λ c κs. search needs) returns (λ c. search needs) (λ c. search needs) returns-2)

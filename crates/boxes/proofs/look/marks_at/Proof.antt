@@ -15,15 +15,9 @@ returns c =
     let n : length (a .x .volatile .marks) ≡ 64 = search needs in
     sym (List·getD-eq-default (a .x .volatile .marks) noMarks {n = a .job} (omega (arith, n, c .if1 .taken)))
 
-mul-result : tie.Need-mul-result
-mul-result c = search needs
-
-array-read-result : tie.Need-array-read-result
-array-read-result c = search needs
-
 returns-2 : tie.Need-returns-2
 unfolding marksAt
 returns-2 c = refl
 
 pub marks-at-spec : {M : Type 1} → statement M
-marks-at-spec = tie.close (tie.spec returns mul-result array-read-result returns-2)
+marks-at-spec = tie.close (tie.spec returns (λ c. search needs) (λ c. search needs) returns-2)

@@ -25,15 +25,19 @@ unfolding someBelow
 loop-holds c =
     let a = c .before .before .args in
     -- owning a box says how long its list is
-    let n : length (a .x .core .list) ≡ 64 = long-map _ _ _ (a .x .core .list) 64 (c .before .before .good .0 .1 .1 .0 .1 .1 .1 .1 .1 .1 .1 .1 .1 .1 .0 .1 .0 .1) in
+    let n : length (a .x .core .list) ≡ 64 =
+    long-map _ _ _ (a .x .core .list) 64 (c .before .before .good .0 .1 .1 .0 .1 .1 .1 .1 .1 .1 .1 .1 .1 .1 .0 .1 .0 .1) in
     (search needs, refl, n)
 
 returns : tie.Need-returns Inv-loop μ-loop
 unfolding onList listedAt
 returns c =
-    let a = c .before .before .before .before .before .args in let l = c .before .before .loop in
+    let if1-taken = c .if1 .taken in
+    let loop-test-taken = c .before .loop-test .taken in
+    let a = c .before .before .before .before .before .args in
+    let l = c .before .before .loop in
     rw (l .inv .1) (jobs-end (a .x .core .list) (a .job) (l .i) (a .x .core .count)
-    (omega (arith, l .inv .2, c .if1 .taken)) (c .before .loop-test .taken))
+    (omega (arith, l .inv .2, if1-taken)) (loop-test-taken))
 
 cast-at : tie.Need-cast-at Inv-loop μ-loop
 cast-at c = search needs
@@ -52,13 +56,16 @@ loop-less c = search needs
 
 loop-again : tie.Need-loop-again Inv-loop μ-loop
 loop-again c =
-    let a = c .before .before .before .before .before .before .before .args in let l = c .before .before .before .before .loop in
+    let at-4 = c .before .before .before .before in
+    let a = at-4 .before .before .before .args in
+    let l = at-4 .loop in
     (omega arith, rw (l .inv .1) (some-step (λ (k : ℕ). eqb (getD (a .x .core .list) k noListed .job) (a .job)) (l .i)), l .inv .2)
 
 returns-2 : tie.Need-returns-2 Inv-loop μ-loop
 unfolding onList listedAt
 returns-2 c =
-    let a = c .before .before .before .before .args in let l = c .before .loop in let e : l .i ≡ a .x .core .count = omega arith in
+    let a = c .before .before .before .before .args in
+    let l = c .before .loop in let e : l .i ≡ a .x .core .count = omega arith in
     l .inv .1 ∙ ap (someBelow (λ (k : ℕ). eqb (getD (a .x .core .list) k noListed .job) (a .job))) e
 
 pub on-list-spec : {M : Type 1} → statement M

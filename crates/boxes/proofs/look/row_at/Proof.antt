@@ -9,9 +9,6 @@ use borrow.Author.Needs.{needs}
 use Rattle.boxes.proofs.look.row_at.Statement.{statement}
 use Rattle.boxes.proofs.look.row_at.Tie as tie
 
-no-row-requires : tie.Need-no-row-requires
-no-row-requires c κs = search needs
-
 returns : tie.Need-returns
 unfolding rowAt
 returns c =
@@ -20,16 +17,10 @@ returns c =
     let n : length (a .x .core .table) ≡ 64 = long-map _ _ _ (a .x .core .table) 64 (c .before .before .good .0 .1 .1 .0 .1 .1 .1 .1 .1 .1 .1 .0 .1 .0 .1) in
     c .no-row .ensures ∙ sym (List·getD-eq-default (a .x .core .table) noRow {n = a .job} (omega (arith, n, c .before .if1 .taken)))
 
-mul-result : tie.Need-mul-result
-mul-result c = search needs
-
-array-copy-out-result : tie.Need-array-copy-out-result
-array-copy-out-result c = search needs
-
 returns-2 : tie.Need-returns-2
 unfolding rowAt
 returns-2 c = refl
 
 pub row-at-spec : {M : Type 1} → statement M
 row-at-spec =
-    tie.close (tie.spec no-row-requires returns mul-result array-copy-out-result returns-2)
+    tie.close (tie.spec (λ c κs. search needs) returns (λ c. search needs) (λ c. search needs) returns-2)

@@ -15,12 +15,9 @@ returns c =
     let n : length (a .x .core .sent) ≡ 64 = search needs in
     sym (List·getD-eq-default (a .x .core .sent) false {n = a .job} (omega (arith, n, c .if1 .taken)))
 
-array-read-result : tie.Need-array-read-result
-array-read-result c = search needs
-
 returns-2 : tie.Need-returns-2
 unfolding sentAt
 returns-2 c = refl
 
 pub sent-at-spec : {M : Type 1} → statement M
-sent-at-spec = tie.close (tie.spec returns array-read-result returns-2)
+sent-at-spec = tie.close (tie.spec returns (λ c. search needs) returns-2)

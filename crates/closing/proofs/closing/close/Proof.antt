@@ -11,27 +11,28 @@ use borrow.Author.Needs.{needs}
 use Rattle.closing.proofs.closing.close.Statement.{statement}
 use Rattle.closing.proofs.closing.close.Tie as tie
 
-plan-sound-requires : tie.Need-plan-sound-requires
-plan-sound-requires c κs = search needs
-
 put-report-requires : tie.Need-put-report-requires
 put-report-requires c κs = (sym (c .before .before .plan-sound .ensures) ∙ c .before .if1 .taken, search needs)
 
 returns : tie.Need-returns
 unfolding nightReport
 returns c =
+    let if1-taken = c .before .before .if1 .taken in
+    let plan-sound-says = c .before .before .before .plan-sound .ensures in
     let a = c .before .before .before .before .args in
     let q = c .put-report in
-    let v : soundReport (a .plan) (a .night) ≡ nightReport (a .plan) (a .night) = sym (pick-true _ _ (sym (c .before .before .before .plan-sound .ensures) ∙ c .before .before .if1 .taken)) in
+    let v : soundReport (a .plan) (a .night) ≡ nightReport (a .plan) (a .night) = sym (pick-true _ _ (sym (plan-sound-says) ∙ if1-taken)) in
     record { used = q .ensures .1 ∙ ap length v; text = q .ensures .2 ∙ ap (λ (l : List ℕ). onto l (a .t .now)) v }
 
 returns-2 : tie.Need-returns-2
 unfolding nightReport
 returns-2 c =
+    let if1-left = c .if1 .left in
+    let plan-sound-says = c .before .plan-sound .ensures in
     let a = c .before .before .args in
-    let v : [] ≡ nightReport (a .plan) (a .night) = sym (pick-false (soundReport (a .plan) (a .night)) _ (sym (c .before .plan-sound .ensures) ∙ c .if1 .left)) in
+    let v : [] ≡ nightReport (a .plan) (a .night) = sym (pick-false (soundReport (a .plan) (a .night)) _ (sym (plan-sound-says) ∙ if1-left)) in
     record { used = ap length v; text = sym (onto-nil (a .t .now)) ∙ ap (λ (l : List ℕ). onto l (a .t .now)) v }
 
 pub close-spec : {M : Type 1} → statement M
 close-spec =
-    tie.close (tie.spec plan-sound-requires put-report-requires returns returns-2)
+    tie.close (tie.spec (λ c κs. search needs) put-report-requires returns returns-2)

@@ -26,7 +26,12 @@ lines boxes p = allFor (boxReport (withBoxes boxes)) p
 
 abbrev Inv-loop : tie.InvT-loop
 Inv-loop n t₀ boxes ends₀ used₀ p₀ t ends used p =
-    (p ≤ n) × (used ≤ boxMost * p) × (length t ≡ length t₀) × (used ≡ length (lines boxes p)) × (t ≡ onto (lines boxes p) t₀) × AllEnded (withBoxes boxes) p ends
+    (p ≤ n)
+    × (used ≤ boxMost * p)
+    × (length t ≡ length t₀)
+    × (used ≡ length (lines boxes p))
+    × (t ≡ onto (lines boxes p) t₀)
+    × AllEnded (withBoxes boxes) p ends
 
 abbrev μ-loop : tie.MeasureT-loop
 μ-loop n t₀ boxes ends₀ used₀ p₀ t ends used p = n - p
@@ -76,9 +81,13 @@ loop-less c = search needs
 loop-again : tie.Need-loop-again Inv-loop μ-loop
 unfolding boxReport boxIn
 loop-again c =
-    let b = c .before .before .before .before .before .before .before .before .before .before .before in
+    let with-box-says = c .with-box .ensures in
+    let at-6 = c .before .before .before .before .before .before in
+    let at-7 = at-6 .before in
+    let at-11 = at-7 .before .before .before .before in
+    let b = at-11 in
     let a = b .args in
-    let l = c .before .before .before .before .before .before .before .loop in
+    let l = at-7 .loop in
     let q = c .before .before .before .put-box in
     let N = withBoxes (a .night .boxes) in
     let long : length (a .night .boxes) ≡ mostBoxes = long-map _ _ _ (a .night .boxes) mostBoxes (b .good .0 .1 .1 .0 .1 .0 .1) in
@@ -95,7 +104,7 @@ loop-again c =
       c .before .before .t .given .1 ∙ l .inv .2,
       k .0 ∙ ap length s,
       k .1 ∙ ap (λ (bs : List ℕ). onto bs (a .t .now)) s,
-      c .with-box .ensures N (omega (arith, b .pre .0)) (sym same) (l .inv .5),
+      with-box-says N (omega (arith, b .pre .0)) (sym same) (l .inv .5),
     )
 
 same-length : tie.Need-same-length Inv-loop μ-loop

@@ -31,21 +31,16 @@ line-is P night j e y d f = ap (λ (x : Committed). text j x y) (d .first-is) �
 finished-below-requires : tie.Need-finished-below-requires
 finished-below-requires c κs = plan-says (c .before .before .before .args .plan) (c .before .before .before .pre .0) .districts-most
 
-job-line-requires : tie.Need-job-line-requires
-job-line-requires c κs = search needs
-
-same-length : tie.Need-same-length
-same-length c = search needs
-
 returns : tie.Need-returns
 unfolding boxesOf
 returns c =
-    let a = c .before .before .before .before .before .before .before .before .args in
+    let at-4 = c .before .before .before .before in
+    let a = at-4 .before .before .before .before .args in
     let q = c .before .before .job-line in
-    let f = c .before .before .before .before .finished-below in
+    let f = at-4 .finished-below in
     let v : (night : Night) → Ended night (a .job) (boxesOf (a .plan)) (a .end) → text (a .job) (a .end .first) (f .result) ≡ jobReport (a .plan) night (a .job) =
     λ night d. line-is (a .plan) night (a .job) (a .end) (f .result) d (f .ensures night (d .holders-are)) in
     (q .ensures .0, λ night d. (q .ensures .1 ∙ ap length (v night d), q .ensures .2 ∙ ap (λ (l : List ℕ). onto l (a .t .now)) (v night d)))
 
 pub put-job-spec : {M : Type 1} → statement M
-put-job-spec = tie.close (tie.spec finished-below-requires job-line-requires same-length returns)
+put-job-spec = tie.close (tie.spec finished-below-requires (λ c κs. search needs) (λ c. search needs) returns)

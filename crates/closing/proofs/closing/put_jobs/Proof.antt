@@ -64,8 +64,9 @@ loop-less c = search needs
 
 loop-again : tie.Need-loop-again Inv-loop μ-loop
 loop-again c =
-    let a = c .before .before .before .before .before .before .before .before .args in
-    let l = c .before .before .before .before .before .before .loop in
+    let at-6 = c .before .before .before .before .before .before in
+    let a = at-6 .before .before .args in
+    let l = at-6 .loop in
     let q = c .before .before .put-job in (
       omega arith,
       omega (arith, q .ensures .0),

@@ -14,42 +14,33 @@ use borrow.Author.Needs.{needs}
 use Rattle.closing.proofs.closing.put_report.Statement.{statement}
 use Rattle.closing.proofs.closing.put_report.Tie as tie
 
-boxes-of-requires : tie.Need-boxes-of-requires
-boxes-of-requires c κs = search needs
-
 cast-n : tie.Need-cast-n
 cast-n c = let a = c .before .before .args in omega (arith, c .boxes-of .ensures .0, boxes-most (a .plan) (c .before .before .pre .0))
 
 put-boxes-requires : tie.Need-put-boxes-requires
-put-boxes-requires c κs = let a = c .before .before .before .args in (omega (arith, c .before .boxes-of .ensures .0, boxes-most (a .plan) (c .before .before .before .pre .0)), search needs)
-
-sub-put-jobs : tie.Need-sub-put-jobs
-sub-put-jobs c = search needs
-
-part-put-jobs-start : tie.Need-part-put-jobs-start
-part-put-jobs-start c = search needs
-
-part-put-jobs-end : tie.Need-part-put-jobs-end
-part-put-jobs-end c = search needs
+put-boxes-requires c κs =
+    let boxes-of-says = c .before .boxes-of .ensures in
+    let a = c .before .before .before .args in
+    let asked = c .before .before .before .pre in
+    (omega (arith, boxes-of-says .0, boxes-most (a .plan) (asked .0)), search needs)
 
 put-jobs-requires : tie.Need-put-jobs-requires
 put-jobs-requires c κs =
-    let b = c .before .before .before .before .before .before .before .before in
+    let at-6 = c .before .before .before .before .before .before in
+    let at-8 = at-6 .before .before in
+    let b = at-8 in
     (b .pre .0, plan-says (b .args .plan) (b .pre .0) .jobs-most, search needs)
-
-add-result : tie.Need-add-result
-add-result c = search needs
-
-same-length : tie.Need-same-length
-same-length c = search needs
 
 returns : tie.Need-returns
 unfolding soundReport
 returns c =
-    let a = c .before .before .before .before .before .before .before .before .before .before .before .args in
-    let p = c .before .before .before .before .before .before .before .put-boxes in
+    let at-6 = c .before .before .before .before .before .before in
+    let at-7 = at-6 .before in
+    let boxes-of-says = at-7 .before .before .boxes-of .ensures in
+    let a = at-7 .before .before .before .before .args in
+    let p = at-7 .put-boxes in
     let q = c .before .before .put-jobs in
-    let n = c .before .before .before .before .before .before .before .before .before .boxes-of .ensures .0 in
+    let n = boxes-of-says .0 in
     let e = ap (allFor (boxReport (a .night))) n in
     let j = q .ensures .1 (a .night) (subst (λ (k : ℕ). AllEnded (a .night) k (p .result .ends)) n (p .ensures .3)) in
     let s =
@@ -62,13 +53,13 @@ pub put-report-spec : {M : Type 1} → statement M
 put-report-spec =
     tie.close
     (tie.spec
-    boxes-of-requires
+    (λ c κs. search needs)
     cast-n
     put-boxes-requires
-    sub-put-jobs
-    part-put-jobs-start
-    part-put-jobs-end
+    (λ c. search needs)
+    (λ c. search needs)
+    (λ c. search needs)
     put-jobs-requires
-    add-result
-    same-length
+    (λ c. search needs)
+    (λ c. search needs)
     returns)

@@ -7,27 +7,28 @@ use borrow.Author.Needs.{needs}
 use Rattle.closing.proofs.endings.done_in.Statement.{statement}
 use Rattle.closing.proofs.endings.done_in.Tie as tie
 
-size-of-requires : tie.Need-size-of-requires
-size-of-requires c κs = search needs
-
-named-requires : tie.Need-named-requires
-named-requires c κs = search needs
-
 mul-low : tie.Need-mul-low
 unfolding sizeOf
 mul-low c = let s : c .before .before .size-of .result ≡ 3 = c .before .before .size-of .ensures .0 in rw s (omega (arith, c .before .before .before .pre))
 
 listed-in-requires : tie.Need-listed-in-requires
 unfolding sizeOf
-listed-in-requires c κs = let s : c .before .before .size-of .result ≡ 3 = c .before .before .size-of .ensures .0 in rw s (omega (arith, c .before .before .before .pre))
+listed-in-requires c κs =
+    let size-of-result = c .before .before .size-of .result in
+    let size-of-says = c .before .before .size-of .ensures in
+    let asked = c .before .before .before .pre in
+    let s : size-of-result ≡ 3 = size-of-says .0 in rw s (omega (arith, asked))
 
 returns : tie.Need-returns
 unfolding doneIn
 returns c =
+    let listed-in-says = c .listed-in .ensures in
+    let named-says = c .before .before .named .ensures in
+    let size-of-says = c .before .before .before .size-of .ensures in
     let a = c .before .before .before .before .args in
-    let s = c .before .before .before .size-of .ensures .0 in
-    λ night h. rw (c .listed-in .ensures night (a .job) (rw s h), c .before .before .named .ensures, s)
+    let s = size-of-says .0 in
+    λ night h. rw (listed-in-says night (a .job) (rw s h), named-says, s)
 
 pub done-in-spec : {M : Type 1} → statement M
 done-in-spec =
-    tie.close (tie.spec size-of-requires named-requires mul-low listed-in-requires returns)
+    tie.close (tie.spec (λ c κs. search needs) (λ c κs. search needs) mul-low listed-in-requires returns)

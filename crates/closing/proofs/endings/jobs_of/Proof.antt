@@ -41,9 +41,15 @@ loop-less c = search needs
 loop-again : tie.Need-loop-again Inv-loop μ-loop
 unfolding firstJobs
 loop-again c =
+    let listed-at-says = c .listed-at .ensures in
     let a = c .before .before .before .args in
-    let l = c .before .before .loop in
-    (omega arith, rw (l .inv .1, c .listed-at .ensures) (fill-step (firstJobs (a .x) (l .i)) 64 (l .i) 0 (listedAt (a .x) (l .i) .job) (first-jobs-length (a .x) (l .i)) (omega arith) ∙ ap (λ (f : List ℕ). f ++ replicate (64 - (l .i + 1)) 0) (upto-step (λ (f : List ℕ) (i : ℕ). f ++ (listedAt (a .x) i .job ∷ [])) [] (l .i))))
+    let l = c .before .before .loop in (
+      omega arith,
+      rw
+          (l .inv .1, listed-at-says)
+          (fill-step (firstJobs (a .x) (l .i)) 64 (l .i) 0 (listedAt (a .x) (l .i) .job) (first-jobs-length (a .x) (l .i)) (omega arith)
+          ∙ ap (λ (f : List ℕ). f ++ replicate (64 - (l .i + 1)) 0) (upto-step (λ (f : List ℕ) (i : ℕ). f ++ (listedAt (a .x) i .job ∷ [])) [] (l .i))),
+    )
 
 returns : tie.Need-returns Inv-loop μ-loop
 returns c =

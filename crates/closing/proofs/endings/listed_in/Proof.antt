@@ -14,7 +14,8 @@ use Rattle.closing.proofs.endings.listed_in.Statement.{statement}
 use Rattle.closing.proofs.endings.listed_in.Tie as tie
 
 abbrev Inv-loop : tie.InvT-loop
-Inv-loop holders low size found₀ i₀ found i = (i ≤ size) × ((night : Night) (j : ℕ) → Holders night j (low .0 + i) holders → found ≡ listedIn night j (low .0) i)
+Inv-loop holders low size found₀ i₀ found i =
+    (i ≤ size) × ((night : Night) (j : ℕ) → Holders night j (low .0 + i) holders → found ≡ listedIn night j (low .0) i)
 
 abbrev μ-loop : tie.MeasureT-loop
 μ-loop holders low size found₀ i₀ found i = size - i
@@ -38,13 +39,14 @@ loop-less c = search needs
 loop-again : tie.Need-loop-again Inv-loop μ-loop
 unfolding listedIn
 loop-again c =
+    let has-mark-says = c .has-mark .ensures in
     let a = c .before .before .before .before .args in
     let l = c .before .before .before .loop in (
       omega arith,
       λ night j h.
           let e = l .inv .1 night j (λ p b. h p (omega arith)) in
           let m = h (a .low .0 + l .i) (omega arith) in
-          rw (e, c .has-mark .ensures, m) (some-step (λ (i : ℕ). onList (boxIn night (a .low .0 + i)) j) (l .i)),
+          rw (e, has-mark-says, m) (some-step (λ (i : ℕ). onList (boxIn night (a .low .0 + i)) j) (l .i)),
     )
 
 returns : tie.Need-returns Inv-loop μ-loop

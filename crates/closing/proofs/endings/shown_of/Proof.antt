@@ -12,12 +12,9 @@ returns : tie.Need-returns
 unfolding shownOf
 returns c = (sym (pick-true _ _ (lt-ltb _ _ (c .if1 .taken))), omega arith)
 
-cast-result : tie.Need-cast-result
-cast-result c = search needs
-
 returns-2 : tie.Need-returns-2
 unfolding shownOf
 returns-2 c = (sym (pick-false _ _ (le-ltb _ _ (c .if1 .left))), search needs)
 
 pub shown-of-spec : {M : Type 1} → statement M
-shown-of-spec = tie.close (tie.spec returns cast-result returns-2)
+shown-of-spec = tie.close (tie.spec returns (λ c. search needs) returns-2)

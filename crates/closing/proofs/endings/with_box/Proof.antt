@@ -45,9 +45,10 @@ loop-less c = search needs
 
 loop-again : tie.Need-loop-again Inv-loop μ-loop
 loop-again c =
+    let end-with-says = c .end-with .ensures in
     let a = c .before .before .before .before .args in
     let l = c .before .before .before .loop in
-    (omega arith, rw (c .end-with .ensures) (heard-step (a .p) (a .x) (a .ends) (l .j) (l .out) (search needs) (l .inv .1)))
+    (omega arith, rw (end-with-says) (heard-step (a .p) (a .x) (a .ends) (l .j) (l .out) (search needs) (l .inv .1)))
 
 returns : tie.Need-returns Inv-loop μ-loop
 returns c =

@@ -15,15 +15,9 @@ returns c =
     let f : Fits w32 (c .before .before .args .marks) = search needs in
     sym (digit-beyond (c .before .before .args .marks) 32 (c .before .before .args .p .0) (f .fits) (c .if1 .taken))
 
-cast-result : tie.Need-cast-result
-cast-result c = search needs
-
-shr-result : tie.Need-shr-result
-shr-result c = search needs
-
 returns-2 : tie.Need-returns-2
 unfolding hasMark digit
 returns-2 c = refl
 
 pub has-mark-spec : {M : Type 1} → statement M
-has-mark-spec = tie.close (tie.spec returns cast-result shr-result returns-2)
+has-mark-spec = tie.close (tie.spec returns (λ c. search needs) (λ c. search needs) returns-2)

@@ -9,12 +9,6 @@ use borrow.Author.Needs.{needs}
 use Rattle.house.proofs.marks.mark.Statement.{statement}
 use Rattle.house.proofs.marks.mark.Tie as tie
 
-cast-result : tie.Need-cast-result
-cast-result c = search needs
-
-shl-result : tie.Need-shl-result
-shl-result c = search needs
-
 returns : tie.Need-returns
 unfolding marked withDigit
 returns c = rw (one-digit (c .before .before .before .args .p .0) 32 (c .before .if1 .taken)) (sym (pick-true _ _ (lt-ltb _ _ (c .before .if1 .taken))))
@@ -24,4 +18,4 @@ unfolding marked
 returns-2 c = sym (pick-false _ _ (le-ltb _ _ (c .if1 .left)))
 
 pub mark-spec : {M : Type 1} → statement M
-mark-spec = tie.close (tie.spec cast-result shl-result returns returns-2)
+mark-spec = tie.close (tie.spec (λ c. search needs) (λ c. search needs) returns returns-2)

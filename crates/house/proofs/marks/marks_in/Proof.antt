@@ -13,30 +13,12 @@ use borrow.Author.Needs.{needs}
 use Rattle.house.proofs.marks.marks_in.Statement.{statement}
 use Rattle.house.proofs.marks.marks_in.Tie as tie
 
-size-of-requires : tie.Need-size-of-requires
-size-of-requires c κs = search needs
-
-times-size-requires : tie.Need-times-size-requires
-times-size-requires c κs = search needs
-
 returns : tie.Need-returns
 unfolding marksIn
 returns c =
     let a = c .before .before .before .args in
     let f : Fits w32 (a .marks) = search needs in
     sym (part-beyond (a .marks) 32 (a .d .0 * sizeOf (a .plan)) (sizeOf (a .plan)) (f .fits) (rw (c .before .times-size .ensures .0) at (c .if1 .taken)))
-
-cast-result : tie.Need-cast-result
-cast-result c = search needs
-
-shr-result : tie.Need-shr-result
-shr-result c = search needs
-
-cast-result-2 : tie.Need-cast-result-2
-cast-result-2 c = search needs
-
-shl-result : tie.Need-shl-result
-shl-result c = search needs
 
 width : (c : tie.Else1) → 1 * 2 ^ c .before .before .size-of .result % 2 ^ 32 ≡ 2 ^ c .before .before .size-of .result
 width c = one-digit (c .before .before .size-of .result) 32 (omega (arith, c .before .before .size-of .ensures .2))
@@ -52,12 +34,12 @@ pub marks-in-spec : {M : Type 1} → statement M
 marks-in-spec =
     tie.close
     (tie.spec
-    size-of-requires
-    times-size-requires
+    (λ c κs. search needs)
+    (λ c κs. search needs)
     returns
-    cast-result
-    shr-result
-    cast-result-2
-    shl-result
+    (λ c. search needs)
+    (λ c. search needs)
+    (λ c. search needs)
+    (λ c. search needs)
     rem-result
     returns-2)

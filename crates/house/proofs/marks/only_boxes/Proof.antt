@@ -12,10 +12,6 @@ use borrow.Author.Needs.{needs}
 use Rattle.house.proofs.marks.only_boxes.Statement.{statement}
 use Rattle.house.proofs.marks.only_boxes.Tie as tie
 
--- src/lib.rt:58:9
-boxes-of-requires : tie.Need-boxes-of-requires
-boxes-of-requires c κs = search needs
-
 -- src/lib.rt:60:9
 returns : tie.Need-returns
 unfolding onlyBoxes
@@ -25,18 +21,10 @@ returns c =
     let n : 32 ≤ boxesOf (a .plan) = rw (c .before .boxes-of .ensures .0) at (c .if1 .taken) in
     sym (lt-ltb (a .marks) (2 ^ boxesOf (a .plan)) (lt-of-lt-of-le (f .fits) (pow-mono n)))
 
--- src/lib.rt:62:22
-cast-result : tie.Need-cast-result
-cast-result c = search needs
-
--- src/lib.rt:62:14
-shl-result : tie.Need-shl-result
-shl-result c = search needs
-
 -- src/lib.rt:55:1
 returns-2 : tie.Need-returns-2
 unfolding onlyBoxes
 returns-2 c = rw (one-digit (c .before .boxes-of .result) 32 (c .if1 .left), c .before .boxes-of .ensures .0)
 
 pub only-boxes-spec : {M : Type 1} → statement M
-only-boxes-spec = tie.close (tie.spec boxes-of-requires returns cast-result shl-result returns-2)
+only-boxes-spec = tie.close (tie.spec (λ c κs. search needs) returns (λ c. search needs) (λ c. search needs) returns-2)

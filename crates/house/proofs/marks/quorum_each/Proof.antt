@@ -37,12 +37,22 @@ loop-less c = search needs
 loop-again : tie.Need-loop-again Inv-loop μ-loop
 unfolding quorumBelow
 loop-again c =
-    let a = c .before .before .before .before .args in let l = c .before .before .before .loop in
-    (omega arith, l .inv .1, rw (l .inv .2, c .before .named .ensures, c .quorum-in .ensures) (all-step (λ (d : ℕ). not (names (a .plan) (a .job) (district d)) || quorumIn (a .plan) (a .marks) (district d)) (l .d)))
+    let quorum-in-says = c .quorum-in .ensures in
+    let named-says = c .before .named .ensures in
+    let a = c .before .before .before .before .args in
+    let l = c .before .before .before .loop in (
+      omega arith,
+      l .inv .1,
+      rw
+          (l .inv .2, named-says, quorum-in-says)
+          (all-step (λ (d : ℕ). not (names (a .plan) (a .job) (district d)) || quorumIn (a .plan) (a .marks) (district d)) (l .d)),
+    )
 
 returns : tie.Need-returns Inv-loop μ-loop
 unfolding quorumEach
-returns c = let a = c .before .before .args in let l = c .before .loop in let e : l .d ≡ a .plan .districts = omega arith in l .inv .2 ∙ ap (quorumBelow (a .plan) (a .job) (a .marks)) e
+returns c =
+    let a = c .before .before .args in
+    let l = c .before .loop in let e : l .d ≡ a .plan .districts = omega arith in l .inv .2 ∙ ap (quorumBelow (a .plan) (a .job) (a .marks)) e
 
 pub quorum-each-spec : {M : Type 1} → statement M
 quorum-each-spec =

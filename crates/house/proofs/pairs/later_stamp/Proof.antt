@@ -6,9 +6,6 @@ use borrow.Author.Needs.{needs}
 use Rattle.house.proofs.pairs.later_stamp.Statement.{statement}
 use Rattle.house.proofs.pairs.later_stamp.Tie as tie
 
-stamp-below-requires : tie.Need-stamp-below-requires
-stamp-below-requires c κs = search needs
-
 returns : tie.Need-returns
 unfolding larger
 returns c = sym (pick-true _ _ (sym (c .before .stamp-below .ensures) ∙ c .if1 .taken))
@@ -18,4 +15,4 @@ unfolding larger
 returns-2 c = sym (pick-false _ _ (sym (c .before .stamp-below .ensures) ∙ c .if1 .left))
 
 pub later-stamp-spec : {M : Type 1} → statement M
-later-stamp-spec = tie.close (tie.spec stamp-below-requires returns returns-2)
+later-stamp-spec = tie.close (tie.spec (λ c κs. search needs) returns returns-2)

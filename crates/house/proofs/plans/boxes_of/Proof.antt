@@ -4,12 +4,9 @@ use borrow.Author.Needs.{needs}
 use Rattle.house.proofs.plans.boxes_of.Statement.{statement}
 use Rattle.house.proofs.plans.boxes_of.Tie as tie
 
-times-size-requires : tie.Need-times-size-requires
-times-size-requires c κs = search needs
-
 returns : tie.Need-returns
 unfolding boxesOf
 returns c = c .times-size .ensures
 
 pub boxes-of-spec : {M : Type 1} → statement M
-boxes-of-spec = tie.close (tie.spec times-size-requires returns)
+boxes-of-spec = tie.close (tie.spec (λ c κs. search needs) returns)

@@ -4,15 +4,9 @@ use borrow.Author.Needs.{needs}
 use Rattle.house.proofs.plans.is_box.Statement.{statement}
 use Rattle.house.proofs.plans.is_box.Tie as tie
 
-cast-result : tie.Need-cast-result
-cast-result c = search needs
-
-boxes-of-requires : tie.Need-boxes-of-requires
-boxes-of-requires c κs = search needs
-
 returns : tie.Need-returns
 unfolding isBox
 returns c = rw (c .boxes-of .ensures .0)
 
 pub is-box-spec : {M : Type 1} → statement M
-is-box-spec = tie.close (tie.spec cast-result boxes-of-requires returns)
+is-box-spec = tie.close (tie.spec (λ c. search needs) (λ c κs. search needs) returns)

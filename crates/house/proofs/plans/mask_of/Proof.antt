@@ -20,12 +20,9 @@ returns-2 c =
     let n : length (a .plan .masks) ≡ 64 = search needs in
     sym (pick-true _ _ (lt-ltb _ _ (c .before .if1 .taken)) ∙ List·getD-eq-default (a .plan .masks) 0 {n = a .job} (omega (arith, n, c .if2 .taken)))
 
-array-read-result : tie.Need-array-read-result
-array-read-result c = search needs
-
 returns-3 : tie.Need-returns-3
 unfolding maskOf isJob
 returns-3 c = sym (pick-true _ _ (lt-ltb _ _ (c .before .before .if1 .taken)))
 
 pub mask-of-spec : {M : Type 1} → statement M
-mask-of-spec = tie.close (tie.spec returns returns-2 array-read-result returns-3)
+mask-of-spec = tie.close (tie.spec returns returns-2 (λ c. search needs) returns-3)

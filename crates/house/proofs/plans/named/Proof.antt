@@ -9,9 +9,6 @@ use borrow.Author.Needs.{needs}
 use Rattle.house.proofs.plans.named.Statement.{statement}
 use Rattle.house.proofs.plans.named.Tie as tie
 
-mask-of-requires : tie.Need-mask-of-requires
-mask-of-requires c κs = search needs
-
 returns : tie.Need-returns
 unfolding names
 returns c =
@@ -19,12 +16,9 @@ returns c =
     let f : Fits w8 (m .result) = search needs in
     sym (rw (← m .ensures) (digit-beyond (m .result) 8 (c .before .before .before .args .d .0) (f .fits) (c .if1 .taken)))
 
-shr-result : tie.Need-shr-result
-shr-result c = search needs
-
 returns-2 : tie.Need-returns-2
 unfolding names digit
 returns-2 c = rw (c .before .before .before .mask-of .ensures)
 
 pub named-spec : {M : Type 1} → statement M
-named-spec = tie.close (tie.spec mask-of-requires returns shr-result returns-2)
+named-spec = tie.close (tie.spec (λ c κs. search needs) returns (λ c. search needs) returns-2)

@@ -8,9 +8,6 @@ use borrow.Author.Needs.{needs}
 use Rattle.house.proofs.plans.office_of.Statement.{statement}
 use Rattle.house.proofs.plans.office_of.Tie as tie
 
-boxes-of-requires : tie.Need-boxes-of-requires
-boxes-of-requires c κs = search needs
-
 cast-t3 : tie.Need-cast-t3
 cast-t3 c = omega (arith, c .boxes-of .ensures .0, boxes-most (c .before .args .plan) (c .before .pre))
 
@@ -19,4 +16,4 @@ unfolding officeOf
 returns c = ap boxNo (c .boxes-of .ensures .0)
 
 pub office-of-spec : {M : Type 1} → statement M
-office-of-spec = tie.close (tie.spec boxes-of-requires cast-t3 returns)
+office-of-spec = tie.close (tie.spec (λ c κs. search needs) cast-t3 returns)

@@ -6,15 +6,9 @@ use borrow.Author.Needs.{needs}
 use Rattle.house.proofs.plans.quorum_of.Statement.{statement}
 use Rattle.house.proofs.plans.quorum_of.Tie as tie
 
-size-of-requires : tie.Need-size-of-requires
-size-of-requires c κs = search needs
-
-add-result : tie.Need-add-result
-add-result c = search needs
-
 returns : tie.Need-returns
 unfolding quorumOf majority
 returns c = let e = c .size-of .ensures in (rw (e .0), omega (arith, e .2))
 
 pub quorum-of-spec : {M : Type 1} → statement M
-quorum-of-spec = tie.close (tie.spec size-of-requires add-result returns)
+quorum-of-spec = tie.close (tie.spec (λ c κs. search needs) (λ c. search needs) returns)

@@ -8,12 +8,6 @@ use borrow.Author.Needs.{needs}
 use Rattle.house.proofs.plans.times_size.Statement.{statement}
 use Rattle.house.proofs.plans.times_size.Tie as tie
 
-size-of-requires : tie.Need-size-of-requires
-size-of-requires c κs = search needs
-
-cast-result : tie.Need-cast-result
-cast-result c = search needs
-
 product : (c : tie.After-size-of) → c .before .args .n * c .size-of .result ≤ 765
 product c =
     let f : Fits w8 (c .before .args .n) = search needs in
@@ -26,4 +20,4 @@ returns : tie.Need-returns
 returns c = (rw (c .size-of .ensures .0), product c)
 
 pub times-size-spec : {M : Type 1} → statement M
-times-size-spec = tie.close (tie.spec size-of-requires cast-result mul-result returns)
+times-size-spec = tie.close (tie.spec (λ c κs. search needs) (λ c. search needs) mul-result returns)

@@ -6,12 +6,9 @@ use borrow.Author.Needs.{needs}
 use Rattle.house.proofs.sound_plans.mask_sound.Statement.{statement}
 use Rattle.house.proofs.sound_plans.mask_sound.Tie as tie
 
-shl-result : tie.Need-shl-result
-shl-result c = search needs
-
 returns : tie.Need-returns
 unfolding maskSound
 returns c = rw (one-digit (c .args .districts) 8 (omega (arith, c .pre)))
 
 pub mask-sound-spec : {M : Type 1} → statement M
-mask-sound-spec = tie.close (tie.spec shl-result returns)
+mask-sound-spec = tie.close (tie.spec (λ c. search needs) returns)

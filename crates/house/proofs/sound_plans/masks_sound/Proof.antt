@@ -38,8 +38,10 @@ loop-less c = search needs
 loop-again : tie.Need-loop-again Inv-loop μ-loop
 unfolding masksSound
 loop-again c =
-    let a = c .before .before .before .before .args in let l = c .before .before .loop in
-    (omega arith, rw (l .inv .1, c .mask-sound .ensures) (all-step (λ (j : ℕ). maskSound (a .plan .districts) (getD (a .plan .masks) j 0)) (l .j)))
+    let mask-sound-says = c .mask-sound .ensures in
+    let a = c .before .before .before .before .args in
+    let l = c .before .before .loop in
+    (omega arith, rw (l .inv .1, mask-sound-says) (all-step (λ (j : ℕ). maskSound (a .plan .districts) (getD (a .plan .masks) j 0)) (l .j)))
 
 returns : tie.Need-returns Inv-loop μ-loop
 returns c = let a = c .before .before .before .args in let l = c .before .loop in let e : l .j ≡ a .n = omega arith in l .inv .1 ∙ ap (masksSound (a .plan)) e

@@ -9,9 +9,6 @@ use borrow.Author.Needs.{needs}
 use Rattle.house.proofs.sound_plans.plan_sound.Statement.{statement}
 use Rattle.house.proofs.sound_plans.plan_sound.Tie as tie
 
-counts-sound-requires : tie.Need-counts-sound-requires
-counts-sound-requires c κs = search needs
-
 returns : tie.Need-returns
 unfolding planSound
 returns c = sym (rw (sym (c .before .counts-sound .ensures) ∙ c .if1 .left))
@@ -30,4 +27,4 @@ unfolding planSound
 returns-2 c = c .masks-sound .ensures ∙ sym (rw (sym (c .before .before .counts-sound .ensures) ∙ c .before .if1 .taken))
 
 pub plan-sound-spec : {M : Type 1} → statement M
-plan-sound-spec = tie.close (tie.spec counts-sound-requires returns masks-sound-requires returns-2)
+plan-sound-spec = tie.close (tie.spec (λ c κs. search needs) returns masks-sound-requires returns-2)

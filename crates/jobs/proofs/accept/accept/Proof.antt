@@ -5,42 +5,28 @@ use borrow.Author.Needs.{needs}
 use Rattle.jobs.proofs.accept.accept.Statement.{statement}
 use Rattle.jobs.proofs.accept.accept.Tie as tie
 
-home-in-requires : tie.Need-home-in-requires
-home-in-requires c κs = search needs
-
-kept-stamp-requires : tie.Need-kept-stamp-requires
-kept-stamp-requires c κs = search needs
-
-row-at-requires : tie.Need-row-at-requires
-row-at-requires c κs = search needs
-
-row-accepted-requires : tie.Need-row-accepted-requires
-row-accepted-requires c κs = search needs
-
-latest-kept-requires : tie.Need-latest-kept-requires
-latest-kept-requires c κs = search needs
-
-raise-requires : tie.Need-raise-requires
-raise-requires c κs = search needs
-
-put-row-requires : tie.Need-put-row-requires
-put-row-requires c κs = search needs
-
 returns : tie.Need-returns
 unfolding accepted
 returns c =
-    c .put-row .ensures
-    ∙ rw (c .before .raise .ensures, c .before .before .latest-kept .ensures, c .before .before .before .row-accepted .ensures, c .before .before .before .before .row-at .ensures, c .before .before .before .before .before .kept-stamp .ensures, c .before .before .before .before .before .before .home-in .ensures)
+    let put-row-says = c .put-row .ensures in
+    let raise-says = c .before .raise .ensures in
+    let latest-kept-says = c .before .before .latest-kept .ensures in
+    let row-accepted-says = c .before .before .before .row-accepted .ensures in
+    let row-at-says = c .before .before .before .before .row-at .ensures in
+    let kept-stamp-says = c .before .before .before .before .before .kept-stamp .ensures in
+    let home-in-says = c .before .before .before .before .before .before .home-in .ensures in
+    put-row-says
+    ∙ rw (raise-says, latest-kept-says, row-accepted-says, row-at-says, kept-stamp-says, home-in-says)
 
 pub accept-spec : {M : Type 1} → statement M
 accept-spec =
     tie.close
     (tie.spec
-    home-in-requires
-    kept-stamp-requires
-    row-at-requires
-    row-accepted-requires
-    latest-kept-requires
-    raise-requires
-    put-row-requires
+    (λ c κs. search needs)
+    (λ c κs. search needs)
+    (λ c κs. search needs)
+    (λ c κs. search needs)
+    (λ c κs. search needs)
+    (λ c κs. search needs)
+    (λ c κs. search needs)
     returns)

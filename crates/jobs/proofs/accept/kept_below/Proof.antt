@@ -41,9 +41,14 @@ loop-less c = search needs
 loop-again : tie.Need-loop-again Inv-loop μ-loop
 unfolding keptBelow
 loop-again c =
-    let a = c .before .before .before .before .before .args in let l = c .before .before .before .before .loop in (
+    let is-no-ballot-says = c .is-no-ballot .ensures in
+    let named-says = c .before .named .ensures in
+    let kept-ballot-says = c .before .before .kept-ballot .ensures in
+    let at-4 = c .before .before .before .before in
+    let a = at-4 .before .args in
+    let l = at-4 .loop in (
       omega arith,
-      rw (l .inv .1, c .is-no-ballot .ensures, c .before .named .ensures, c .before .before .kept-ballot .ensures)
+      rw (l .inv .1, is-no-ballot-says, named-says, kept-ballot-says)
           (all-step (λ (e : ℕ). not (names (a .plan) (a .job) (district e)) || not (isNoBallot (keptBallot (a .x) (a .job) (district e)))) (l .d)),
     )
 

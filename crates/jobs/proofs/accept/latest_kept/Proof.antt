@@ -38,10 +38,15 @@ loop-less c = search needs
 loop-again : tie.Need-loop-again Inv-loop μ-loop
 unfolding latestKept
 loop-again c =
-    let a = c .before .before .before .before .args in let l = c .before .before .loop in (
+    let later-kept-says = c .later-kept .ensures in
+    let a = c .before .before .before .before .args in
+    let l = c .before .before .loop in (
       omega arith,
-      c .later-kept .ensures
-          ∙ rw (l .inv .1) (upto-step (λ (s : Stamp) (e : ℕ). pick (names (a .plan) (a .job) (district e)) (laterStamp s (keptStamp (a .x) (a .job) (district e))) s) noStamp (l .d)),
+      later-kept-says
+          ∙
+          rw
+          (l .inv .1)
+          (upto-step (λ (s : Stamp) (e : ℕ). pick (names (a .plan) (a .job) (district e)) (laterStamp s (keptStamp (a .x) (a .job) (district e))) s) noStamp (l .d)),
     )
 
 returns : tie.Need-returns Inv-loop μ-loop

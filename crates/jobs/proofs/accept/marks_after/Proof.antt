@@ -8,11 +8,8 @@ use Rattle.jobs.proofs.accept.marks_after.Tie as tie
 returns : tie.Need-returns
 returns c = sym (pick-true _ _ (c .if1 .taken))
 
-no-marks-requires : tie.Need-no-marks-requires
-no-marks-requires c κs = search needs
-
 returns-2 : tie.Need-returns-2
 returns-2 c = c .no-marks .ensures ∙ sym (pick-false _ _ (c .before .if1 .left))
 
 pub marks-after-spec : {M : Type 1} → statement M
-marks-after-spec = tie.close (tie.spec returns no-marks-requires returns-2)
+marks-after-spec = tie.close (tie.spec returns (λ c κs. search needs) returns-2)

@@ -11,12 +11,9 @@ returns : tie.Need-returns
 unfolding acceptedRow
 returns c = sym (pick-true _ _ (eq-eqb _ _ (c .if1 .taken)))
 
-no-stamp-requires : tie.Need-no-stamp-requires
-no-stamp-requires c κs = search needs
-
 returns-2 : tie.Need-returns-2
 unfolding acceptedRow
 returns-2 c = rw (c .no-stamp .ensures) (sym (pick-false _ _ (ne-eqb _ _ (c .before .if1 .left))))
 
 pub row-accepted-spec : {M : Type 1} → statement M
-row-accepted-spec = tie.close (tie.spec returns no-stamp-requires returns-2)
+row-accepted-spec = tie.close (tie.spec returns (λ c κs. search needs) returns-2)

@@ -45,9 +45,15 @@ loop-less c = search needs
 loop-again : tie.Need-loop-again Inv-loop μ-loop
 unfolding agreeBelow
 loop-again c =
-    let a = c .before .before .before .before .before .before .args in let l = c .before .before .before .before .before .loop in (
+    let same-ballot-says = c .same-ballot .ensures in
+    let named-says = c .before .named .ensures in
+    let kept-ballot-says = c .before .before .kept-ballot .ensures in
+    let ballot-at-says = c .before .before .before .ballot-at .ensures in
+    let at-5 = c .before .before .before .before .before in
+    let a = at-5 .before .args in
+    let l = at-5 .loop in (
       omega arith,
-      rw (l .inv .1, c .same-ballot .ensures, c .before .named .ensures, c .before .before .kept-ballot .ensures, c .before .before .before .ballot-at .ensures)
+      rw (l .inv .1, same-ballot-says, named-says, kept-ballot-says, ballot-at-says)
           (all-step (λ (e : ℕ). not (names (a .plan) (a .job) (district e)) || sameBallot (getD (a .ballots) e noBallot) (keptBallot (a .x) (a .job) (district e))) (l .d)),
     )
 

@@ -4,17 +4,8 @@ use borrow.Author.Needs.{needs}
 use Rattle.jobs.proofs.accept_ack.mark_by.Statement.{statement}
 use Rattle.jobs.proofs.accept_ack.mark_by.Tie as tie
 
-marks-at-requires : tie.Need-marks-at-requires
-marks-at-requires c κs = search needs
-
-mark-requires : tie.Need-mark-requires
-mark-requires c κs = search needs
-
-put-marks-requires : tie.Need-put-marks-requires
-put-marks-requires c κs = search needs
-
 returns : tie.Need-returns
 returns c = c .put-marks .ensures ∙ rw (c .before .mark .ensures, c .before .before .marks-at .ensures)
 
 pub mark-by-spec : {M : Type 1} → statement M
-mark-by-spec = tie.close (tie.spec marks-at-requires mark-requires put-marks-requires returns)
+mark-by-spec = tie.close (tie.spec (λ c κs. search needs) (λ c κs. search needs) (λ c κs. search needs) returns)

@@ -12,42 +12,44 @@ use borrow.Author.Needs.{needs}
 use Rattle.jobs.proofs.accept_ack.when_marked.Statement.{statement}
 use Rattle.jobs.proofs.accept_ack.when_marked.Tie as tie
 
-is-enough-requires : tie.Need-is-enough-requires
-is-enough-requires c κs = search needs
-
-commit-requires : tie.Need-commit-requires
-commit-requires c κs = search needs
-
 hand-out-requires : tie.Need-hand-out-requires
 unfolding whenMarked
 hand-out-requires c κs =
-    let a = c .before .before .before .before .before .before .args in let y = c .before .before .commit in
-    let v = pick-true (handing (handOut (a .plan) (committed (a .plan) (a .x) (a .job)))) (does (a .x) [] Nothing) (sym (c .before .before .before .before .is-enough .ensures) ∙ c .before .before .before .if1 .taken) in
-    (c .before .before .before .before .before .before .pre .0, (y .result .volatile, rw (y .ensures) (rw v at (c .before .before .before .before .before .before .pre .2))))
-
-put-sent-requires : tie.Need-put-sent-requires
-put-sent-requires c κs = search needs
-
-same-length : tie.Need-same-length
-same-length c = search needs
+    let if1-taken = c .before .before .before .if1 .taken in
+    let is-enough-says = c .before .before .before .before .is-enough .ensures in
+    let a = c .before .before .before .before .before .before .args in
+    let asked = c .before .before .before .before .before .before .pre in
+    let y = c .before .before .commit in
+    let v = pick-true (handing (handOut (a .plan) (committed (a .plan) (a .x) (a .job)))) (does (a .x) [] Nothing) (sym (is-enough-says) ∙ if1-taken) in
+    (asked .0, (y .result .volatile, rw (y .ensures) (rw v at (asked .2))))
 
 returns : tie.Need-returns
 unfolding whenMarked
 returns c =
-    let a = c .before .before .before .before .before .before .before .before .before .before .before .args in let y = c .before .before .before .before .before .before .before .commit in
-    let v = pick-true (handing (handOut (a .plan) (committed (a .plan) (a .x) (a .job)))) (does (a .x) [] Nothing) (sym (c .before .before .before .before .before .before .before .before .before .is-enough .ensures) ∙ c .before .before .before .before .before .before .before .before .if1 .taken) in
-    let q = c .before .before .before .before .hand-out .ensures (y .result .volatile) in
-    let z : c .put-sent .result ≡ handOut (a .plan) (y .result) .box = c .put-sent .ensures ∙ q .0 in
+    let put-sent-result = c .put-sent .result in
+    let put-sent-says = c .put-sent .ensures in
+    let at-4 = c .before .before .before .before in
+    let hand-out-says = at-4 .hand-out .ensures in
+    let at-7 = at-4 .before .before .before in
+    let if1-taken = at-7 .before .if1 .taken in
+    let is-enough-says = at-7 .before .before .is-enough .ensures in
+    let a = at-7 .before .before .before .before .args in
+    let y = at-7 .commit in
+    let v = pick-true (handing (handOut (a .plan) (committed (a .plan) (a .x) (a .job)))) (does (a .x) [] Nothing) (sym (is-enough-says) ∙ if1-taken) in
+    let q = hand-out-says (y .result .volatile) in
+    let z : put-sent-result ≡ handOut (a .plan) (y .result) .box = put-sent-says ∙ q .0 in
     (rw (v, z, q .1, q .2, y .ensures), rw (v, ← y .ensures) (q .3))
 
 returns-2 : tie.Need-returns-2
 unfolding whenMarked
 returns-2 c =
+    let if1-left = c .if1 .left in
+    let is-enough-says = c .before .is-enough .ensures in
     let a = c .before .before .before .args in
-    let v = pick-false (handing (handOut (a .plan) (committed (a .plan) (a .x) (a .job)))) (does (a .x) [] Nothing) (sym (c .before .is-enough .ensures) ∙ c .if1 .left) in
+    let v = pick-false (handing (handOut (a .plan) (committed (a .plan) (a .x) (a .job)))) (does (a .x) [] Nothing) (sym (is-enough-says) ∙ if1-left) in
     (rw (v, encode-none (a .plan)), rw (v, encode-none (a .plan)) (sym (onto-nil (a .tray .now))))
 
 pub when-marked-spec : {M : Type 1} → statement M
 when-marked-spec =
     tie.close
-    (tie.spec is-enough-requires commit-requires hand-out-requires put-sent-requires same-length returns returns-2)
+    (tie.spec (λ c κs. search needs) (λ c κs. search needs) hand-out-requires (λ c κs. search needs) (λ c. search needs) returns returns-2)

@@ -4,45 +4,30 @@ use borrow.Author.Needs.{needs}
 use Rattle.jobs.proofs.deliver.decide_deliver.Statement.{statement}
 use Rattle.jobs.proofs.deliver.decide_deliver.Tie as tie
 
-home-in-requires : tie.Need-home-in-requires
-home-in-requires c κs = search needs
-
-named-requires : tie.Need-named-requires
-named-requires c κs = search needs
-
-is-recovering-requires : tie.Need-is-recovering-requires
-is-recovering-requires c κs = search needs
-
-same-ballot-requires : tie.Need-same-ballot-requires
-same-ballot-requires c κs = search needs
-
-last-stamp-requires : tie.Need-last-stamp-requires
-last-stamp-requires c κs = search needs
-
-stamp-below-requires : tie.Need-stamp-below-requires
-stamp-below-requires c κs = search needs
-
-on-list-requires : tie.Need-on-list-requires
-on-list-requires c κs = search needs
-
-in-order-requires : tie.Need-in-order-requires
-in-order-requires c κs = search needs
-
 returns : tie.Need-returns
 returns c =
-    c .in-order .ensures
-    ∙ rw (c .before .on-list .ensures, c .before .before .stamp-below .ensures, c .before .before .before .last-stamp .ensures, c .before .before .before .before .same-ballot .ensures, c .before .before .before .before .before .is-recovering .ensures, c .before .before .before .before .before .before .named .ensures, c .before .before .before .before .before .before .before .home-in .ensures)
+    let in-order-says = c .in-order .ensures in
+    let on-list-says = c .before .on-list .ensures in
+    let stamp-below-says = c .before .before .stamp-below .ensures in
+    let last-stamp-says = c .before .before .before .last-stamp .ensures in
+    let same-ballot-says = c .before .before .before .before .same-ballot .ensures in
+    let is-recovering-says = c .before .before .before .before .before .is-recovering .ensures in
+    let at-6 = c .before .before .before .before .before .before in
+    let named-says = at-6 .named .ensures in
+    let home-in-says = at-6 .before .home-in .ensures in
+    in-order-says
+    ∙ rw (on-list-says, stamp-below-says, last-stamp-says, same-ballot-says, is-recovering-says, named-says, home-in-says)
 
 pub decide-deliver-spec : {M : Type 1} → statement M
 decide-deliver-spec =
     tie.close
     (tie.spec
-    home-in-requires
-    named-requires
-    is-recovering-requires
-    same-ballot-requires
-    last-stamp-requires
-    stamp-below-requires
-    on-list-requires
-    in-order-requires
+    (λ c κs. search needs)
+    (λ c κs. search needs)
+    (λ c κs. search needs)
+    (λ c κs. search needs)
+    (λ c κs. search needs)
+    (λ c κs. search needs)
+    (λ c κs. search needs)
+    (λ c κs. search needs)
     returns)

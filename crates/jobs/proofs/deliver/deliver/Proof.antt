@@ -5,12 +5,6 @@ use borrow.Author.Needs.{needs}
 use Rattle.jobs.proofs.deliver.deliver.Statement.{statement}
 use Rattle.jobs.proofs.deliver.deliver.Tie as tie
 
-raise-requires : tie.Need-raise-requires
-raise-requires c κs = search needs
-
-put-row-requires : tie.Need-put-row-requires
-put-row-requires c κs = search needs
-
 put-listed-requires : tie.Need-put-listed-requires
 put-listed-requires c κs = rw (c .put-row .ensures) (c .before .before .before .pre .1)
 
@@ -19,4 +13,4 @@ unfolding delivered
 returns c = c .put-listed .ensures ∙ rw (c .before .put-row .ensures, c .before .before .raise .ensures)
 
 pub deliver-spec : {M : Type 1} → statement M
-deliver-spec = tie.close (tie.spec raise-requires put-row-requires put-listed-requires returns)
+deliver-spec = tie.close (tie.spec (λ c κs. search needs) (λ c κs. search needs) put-listed-requires returns)

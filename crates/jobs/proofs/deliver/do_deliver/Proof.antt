@@ -5,9 +5,6 @@ use borrow.Author.Needs.{needs}
 use Rattle.jobs.proofs.deliver.do_deliver.Statement.{statement}
 use Rattle.jobs.proofs.deliver.do_deliver.Tie as tie
 
-deliver-requires : tie.Need-deliver-requires
-deliver-requires c κs = search needs
-
 returns : tie.Need-returns
 returns c =
     let a = c .before .args in
@@ -15,4 +12,4 @@ returns c =
     rw (v, c .deliver .ensures, encode-none (a .plan))
 
 pub do-deliver-spec : {M : Type 1} → statement M
-do-deliver-spec = tie.close (tie.spec deliver-requires returns)
+do-deliver-spec = tie.close (tie.spec (λ c κs. search needs) returns)

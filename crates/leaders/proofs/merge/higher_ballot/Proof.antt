@@ -6,9 +6,6 @@ use borrow.Author.Needs.{needs}
 use Rattle.leaders.proofs.merge.higher_ballot.Statement.{statement}
 use Rattle.leaders.proofs.merge.higher_ballot.Tie as tie
 
-ballot-below-requires : tie.Need-ballot-below-requires
-ballot-below-requires c κs = search needs
-
 returns : tie.Need-returns
 unfolding larger
 returns c = sym (pick-true _ _ (sym (c .before .ballot-below .ensures) ∙ c .if1 .taken))
@@ -18,4 +15,4 @@ unfolding larger
 returns-2 c = sym (pick-false _ _ (sym (c .before .ballot-below .ensures) ∙ c .if1 .left))
 
 pub higher-ballot-spec : {M : Type 1} → statement M
-higher-ballot-spec = tie.close (tie.spec ballot-below-requires returns returns-2)
+higher-ballot-spec = tie.close (tie.spec (λ c κs. search needs) returns returns-2)

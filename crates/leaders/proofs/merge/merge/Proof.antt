@@ -5,39 +5,27 @@ use borrow.Author.Needs.{needs}
 use Rattle.leaders.proofs.merge.merge.Statement.{statement}
 use Rattle.leaders.proofs.merge.merge.Tie as tie
 
-merge-votes-requires : tie.Need-merge-votes-requires
-merge-votes-requires c κs = search needs
-
-put-table-requires : tie.Need-put-table-requires
-put-table-requires c κs = search needs
-
-put-sent-requires : tie.Need-put-sent-requires
-put-sent-requires c κs = search needs
-
-put-mode-requires : tie.Need-put-mode-requires
-put-mode-requires c κs = search needs
-
-no-vote-requires : tie.Need-no-vote-requires
-no-vote-requires c κs = search needs
-
-put-vote-requires : tie.Need-put-vote-requires
-put-vote-requires c κs = search needs
-
 returns : tie.Need-returns
 unfolding merged
 returns c =
-    let m = c .before .before .before .before .before .before .merge-votes in
-    c .put-vote .ensures
-    ∙ rw (c .before .before .put-mode .ensures, c .before .before .before .put-sent .ensures, c .before .before .before .before .put-table .ensures, m .ensures .0, m .ensures .1, c .before .no-vote .ensures)
+    let put-vote-says = c .put-vote .ensures in
+    let no-vote-says = c .before .no-vote .ensures in
+    let put-mode-says = c .before .before .put-mode .ensures in
+    let put-sent-says = c .before .before .before .put-sent .ensures in
+    let put-table-says = c .before .before .before .before .put-table .ensures in
+    let at-6 = c .before .before .before .before .before .before in
+    let m = at-6 .merge-votes in
+    put-vote-says
+    ∙ rw (put-mode-says, put-sent-says, put-table-says, m .ensures .0, m .ensures .1, no-vote-says)
 
 pub merge-spec : {M : Type 1} → statement M
 merge-spec =
     tie.close
     (tie.spec
-    merge-votes-requires
-    put-table-requires
-    put-sent-requires
-    put-mode-requires
-    no-vote-requires
-    put-vote-requires
+    (λ c κs. search needs)
+    (λ c κs. search needs)
+    (λ c κs. search needs)
+    (λ c κs. search needs)
+    (λ c κs. search needs)
+    (λ c κs. search needs)
     returns)

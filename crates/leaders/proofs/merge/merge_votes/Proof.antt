@@ -7,21 +7,21 @@ use borrow.Author.Needs.{needs}
 use Rattle.leaders.proofs.merge.merge_votes.Statement.{statement}
 use Rattle.leaders.proofs.merge.merge_votes.Tie as tie
 
-merge-two-requires : tie.Need-merge-two-requires
-merge-two-requires c κs = search needs
-
 returns : tie.Need-returns
 returns c =
+    let merge-two-says = c .merge-two .ensures in
+    let if1-taken = c .before .if1 .taken in
     let a = c .before .before .before .before .before .before .args in
-    rw (with-held (a .old) (a .new) (c .before .before .before .before .before .before .pre .0) ∙ pick-true _ _ (lt-ltb _ _ (c .before .if1 .taken))) (c .merge-two .ensures)
-
-merge-two-requires-2 : tie.Need-merge-two-requires-2
-merge-two-requires-2 c κs = search needs
+    let asked = c .before .before .before .before .before .before .pre in
+    rw (with-held (a .old) (a .new) (asked .0) ∙ pick-true _ _ (lt-ltb _ _ (if1-taken))) (merge-two-says)
 
 returns-2 : tie.Need-returns-2
 returns-2 c =
+    let merge-two2-says = c .merge-two2 .ensures in
+    let if1-left = c .before .if1 .left in
     let a = c .before .before .before .before .before .before .args in
-    rw (with-held (a .old) (a .new) (c .before .before .before .before .before .before .pre .0) ∙ pick-false _ _ (le-ltb _ _ (c .before .if1 .left))) (c .merge-two2 .ensures)
+    let asked = c .before .before .before .before .before .before .pre in
+    rw (with-held (a .old) (a .new) (asked .0) ∙ pick-false _ _ (le-ltb _ _ (if1-left))) (merge-two2-says)
 
 pub merge-votes-spec : {M : Type 1} → statement M
-merge-votes-spec = tie.close (tie.spec merge-two-requires returns merge-two-requires-2 returns-2)
+merge-votes-spec = tie.close (tie.spec (λ c κs. search needs) returns (λ c κs. search needs) returns-2)

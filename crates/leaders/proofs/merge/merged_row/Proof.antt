@@ -4,34 +4,24 @@ use borrow.Author.Needs.{needs}
 use Rattle.leaders.proofs.merge.merged_row.Statement.{statement}
 use Rattle.leaders.proofs.merge.merged_row.Tie as tie
 
-higher-ballot-requires : tie.Need-higher-ballot-requires
-higher-ballot-requires c κs = search needs
-
-same-ballot-requires : tie.Need-same-ballot-requires
-same-ballot-requires c κs = search needs
-
-same-ballot-requires-2 : tie.Need-same-ballot-requires-2
-same-ballot-requires-2 c κs = search needs
-
-no-row-requires : tie.Need-no-row-requires
-no-row-requires c κs = search needs
-
-first-row-requires : tie.Need-first-row-requires
-first-row-requires c κs = search needs
-
-first-row-requires-2 : tie.Need-first-row-requires-2
-first-row-requires-2 c κs = search needs
-
 returns : tie.Need-returns
-returns c = λ u v j eu ru ev rv.
-    let a = c .before .before .before .before .before .before .before .before .before .before .args in
+returns c =
+    let first-row2-says = c .first-row2 .ensures in
+    let first-row-says = c .before .before .before .first-row .ensures in
+    let no-row-says = c .before .before .before .before .no-row .ensures in
+    let at-6 = c .before .before .before .before .before .before in
+    let same-ballot2-says = at-6 .same-ballot2 .ensures in
+    let same-ballot-says = at-6 .before .before .same-ballot .ensures in
+    let higher-ballot-says = at-6 .before .before .before .higher-ballot .ensures in
+    let a = at-6 .before .before .before .before .args in
+    λ u v j eu ru ev rv.
     rw (
-      c .first-row2 .ensures,
-      c .before .before .before .first-row .ensures,
-      c .before .before .before .before .before .before .before .before .same-ballot .ensures,
-      c .before .before .before .before .before .before .same-ballot2 .ensures,
-      c .before .before .before .before .before .before .before .before .before .higher-ballot .ensures,
-      c .before .before .before .before .no-row .ensures,
+      first-row2-says,
+      first-row-says,
+      same-ballot-says,
+      same-ballot2-says,
+      higher-ballot-says,
+      no-row-says,
     )
     (row-of-two u v j (a .low) (a .high) (a .a) (a .b) eu ru ev rv)
 
@@ -39,10 +29,10 @@ pub merged-row-spec : {M : Type 1} → statement M
 merged-row-spec =
     tie.close
     (tie.spec
-    higher-ballot-requires
-    same-ballot-requires
-    same-ballot-requires-2
-    no-row-requires
-    first-row-requires
-    first-row-requires-2
+    (λ c κs. search needs)
+    (λ c κs. search needs)
+    (λ c κs. search needs)
+    (λ c κs. search needs)
+    (λ c κs. search needs)
+    (λ c κs. search needs)
     returns)

@@ -56,14 +56,17 @@ loop-less c = search needs
 loop-again : tie.Need-loop-again Inv-loop μ-loop
 unfolding voteRow
 loop-again c =
-    let l = c .before .before .before .before .loop in (
+    let merged-row-says = c .merged-row .ensures in
+    let at-4 = c .before .before .before .before in
+    let l = at-4 .loop in (
       omega arith,
-      λ u v eu ru ev rv. rw (l .inv .1 u v eu ru ev rv, c .merged-row .ensures u v (l .j) eu (rw ru) ev (rw rv)) (table-step (u ∷ v ∷ []) (l .j)),
+      λ u v eu ru ev rv. rw (l .inv .1 u v eu ru ev rv, merged-row-says u v (l .j) eu (rw ru) ev (rw rv)) (table-step (u ∷ v ∷ []) (l .j)),
     )
 
 returns : tie.Need-returns Inv-loop μ-loop
 returns c =
-    let a = c .before .before .before .before .before .before .before .args in
+    let at-6 = c .before .before .before .before .before .before in
+    let a = at-6 .before .args in
     let l = c .before .loop in
     let e : l .j ≡ a .jobs = omega arith in
     l .inv .1 (a .low) (a .high) refl refl refl refl ∙ ap (mergedTable (a .low ∷ a .high ∷ [])) e

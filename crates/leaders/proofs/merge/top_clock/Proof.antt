@@ -5,11 +5,8 @@ use borrow.Author.Needs.{needs}
 use Rattle.leaders.proofs.merge.top_clock.Statement.{statement}
 use Rattle.leaders.proofs.merge.top_clock.Tie as tie
 
-raise-requires : tie.Need-raise-requires
-raise-requires c κs = search needs
-
 returns : tie.Need-returns
 returns c = c .raise .ensures ∙ sym (clock-of-two (c .before .args .low) (c .before .args .high))
 
 pub top-clock-spec : {M : Type 1} → statement M
-top-clock-spec = tie.close (tie.spec raise-requires returns)
+top-clock-spec = tie.close (tie.spec (λ c κs. search needs) returns)

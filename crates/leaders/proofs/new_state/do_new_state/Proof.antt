@@ -6,27 +6,23 @@ use borrow.Author.Needs.{needs}
 use Rattle.leaders.proofs.new_state.do_new_state.Statement.{statement}
 use Rattle.leaders.proofs.new_state.do_new_state.Tie as tie
 
-follow-requires : tie.Need-follow-requires
-follow-requires c κs = search needs
-
-newstate-ack-record-requires : tie.Need-newstate-ack-record-requires
-newstate-ack-record-requires c κs = search needs
-
 put-record-requires : tie.Need-put-record-requires
 put-record-requires c κs =
-    let a = c .before .before .before .before .args in let p = c .before .before .before .before .pre in
+    let newstate-ack-record-says = c .before .newstate-ack-record .ensures in
+    let a = c .before .before .before .before .args in
+    let p = c .before .before .before .before .pre in
     let v = new-state-is (a .plan) (a .x) (a .from) (record { ballot = a .b; clock = a .clock; table = a .table }) (p .2) in
     let o = encode-one (a .plan) (newstate-ack (a .x .core .own) (a .from) (a .b)) in
-    (p .0, rw (c .before .newstate-ack-record .ensures) (rw (v, o) at (p .1)))
-
-same-length : tie.Need-same-length
-same-length c = search needs
+    (p .0, rw (newstate-ack-record-says) (rw (v, o) at (p .1)))
 
 returns : tie.Need-returns
 returns c =
-    let a = c .before .before .before .before .before .before .before .args in let p = c .before .before .before .before .before .before .before .pre in
-    let y = c .before .before .before .before .before .follow in let q = c .before .before .put-record in
-    let r = c .before .before .before .before .newstate-ack-record in
+    let at-4 = c .before .before .before .before in
+    let at-5 = at-4 .before in
+    let a = at-5 .before .before .args in
+    let p = at-5 .before .before .pre in
+    let y = at-5 .follow in let q = c .before .before .put-record in
+    let r = at-4 .newstate-ack-record in
     let v = new-state-is (a .plan) (a .x) (a .from) (record { ballot = a .b; clock = a .clock; table = a .table }) (p .2) in
     let o = encode-one (a .plan) (newstate-ack (a .x .core .own) (a .from) (a .b)) in
     (rw (v, o, q .ensures .0, r .ensures, y .ensures), rw (v, o, ← r .ensures) (q .ensures .1))
@@ -34,4 +30,4 @@ returns c =
 pub do-new-state-spec : {M : Type 1} → statement M
 do-new-state-spec =
     tie.close
-    (tie.spec follow-requires newstate-ack-record-requires put-record-requires same-length returns)
+    (tie.spec (λ c κs. search needs) (λ c κs. search needs) put-record-requires (λ c. search needs) returns)

@@ -4,14 +4,8 @@ use borrow.Author.Needs.{needs}
 use Rattle.leaders.proofs.newleader.decide_newleader.Statement.{statement}
 use Rattle.leaders.proofs.newleader.decide_newleader.Tie as tie
 
-ballot-below-requires : tie.Need-ballot-below-requires
-ballot-below-requires c κs = search needs
-
-in-order-requires : tie.Need-in-order-requires
-in-order-requires c κs = search needs
-
 returns : tie.Need-returns
 returns c = c .in-order .ensures ∙ rw (c .before .ballot-below .ensures)
 
 pub decide-newleader-spec : {M : Type 1} → statement M
-decide-newleader-spec = tie.close (tie.spec ballot-below-requires in-order-requires returns)
+decide-newleader-spec = tie.close (tie.spec (λ c κs. search needs) (λ c κs. search needs) returns)

@@ -6,30 +6,27 @@ use borrow.Author.Needs.{needs}
 use Rattle.leaders.proofs.newleader.do_newleader.Statement.{statement}
 use Rattle.leaders.proofs.newleader.do_newleader.Tie as tie
 
-join-requires : tie.Need-join-requires
-join-requires c κs = search needs
-
-vote-record-requires : tie.Need-vote-record-requires
-vote-record-requires c κs = search needs
-
 put-record-requires : tie.Need-put-record-requires
 put-record-requires c κs =
-    let a = c .before .before .before .before .args in let p = c .before .before .before .before .pre in
+    let vote-record-says = c .before .vote-record .ensures in
+    let a = c .before .before .before .before .args in
+    let p = c .before .before .before .before .pre in
     let v = newleader-is (a .plan) (a .x) (a .from) (a .b) (p .2) in
     let o = encode-one (a .plan) (voteFor (a .plan) (a .x) (a .from) (a .b)) in
-    (p .0, rw (c .before .vote-record .ensures) (rw (v, o) at (p .1)))
-
-same-length : tie.Need-same-length
-same-length c = search needs
+    (p .0, rw (vote-record-says) (rw (v, o) at (p .1)))
 
 returns : tie.Need-returns
 returns c =
-    let a = c .before .before .before .before .before .before .before .args in let y = c .before .before .before .before .before .join in
-    let r = c .before .before .before .before .vote-record in let q = c .before .before .put-record in
-    let v = newleader-is (a .plan) (a .x) (a .from) (a .b) (c .before .before .before .before .before .before .before .pre .2) in
+    let at-4 = c .before .before .before .before in
+    let at-5 = at-4 .before in
+    let a = at-5 .before .before .args in
+    let asked = at-5 .before .before .pre in
+    let y = at-5 .join in
+    let r = at-4 .vote-record in let q = c .before .before .put-record in
+    let v = newleader-is (a .plan) (a .x) (a .from) (a .b) (asked .2) in
     let o = encode-one (a .plan) (voteFor (a .plan) (a .x) (a .from) (a .b)) in
     (rw (v, o, q .ensures .0, r .ensures, y .ensures), rw (v, o, ← r .ensures) (q .ensures .1))
 
 pub do-newleader-spec : {M : Type 1} → statement M
 do-newleader-spec =
-    tie.close (tie.spec join-requires vote-record-requires put-record-requires same-length returns)
+    tie.close (tie.spec (λ c κs. search needs) (λ c κs. search needs) put-record-requires (λ c. search needs) returns)

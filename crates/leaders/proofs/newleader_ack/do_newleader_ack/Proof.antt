@@ -4,25 +4,21 @@ use borrow.Author.Needs.{needs}
 use Rattle.leaders.proofs.newleader_ack.do_newleader_ack.Statement.{statement}
 use Rattle.leaders.proofs.newleader_ack.do_newleader_ack.Tie as tie
 
-vote-of-requires : tie.Need-vote-of-requires
-vote-of-requires c κs = search needs
-
 when-voted-requires : tie.Need-when-voted-requires
 when-voted-requires c κs =
     let a = c .before .before .before .args in let p = c .before .before .before .pre in
     let v = newleader-ack-is (a .plan) (a .x) (a .from) (record { ballot = a .b; cballot = a .cballot; clock = a .clock; table = a .table }) (p .2) in
     (p .0, rw (c .before .vote-of .ensures (a .b)) (rw v at (p .1)))
 
-same-length : tie.Need-same-length
-same-length c = search needs
-
 returns : tie.Need-returns
 returns c =
-    let a = c .before .before .before .before .before .before .args in let p = c .before .before .before .before .before .before .pre in
-    let e = c .before .before .before .before .vote-of .ensures (a .b) in let q = c .before .before .when-voted in
+    let vote-of-says = c .before .before .before .before .vote-of .ensures in
+    let a = c .before .before .before .before .before .before .args in
+    let p = c .before .before .before .before .before .before .pre in
+    let e = vote-of-says (a .b) in let q = c .before .before .when-voted in
     let v = newleader-ack-is (a .plan) (a .x) (a .from) (record { ballot = a .b; cballot = a .cballot; clock = a .clock; table = a .table }) (p .2) in
     (rw (v, ← e) (q .ensures .0), rw (v, ← e) (q .ensures .1))
 
 pub do-newleader-ack-spec : {M : Type 1} → statement M
 do-newleader-ack-spec =
-    tie.close (tie.spec vote-of-requires when-voted-requires same-length returns)
+    tie.close (tie.spec (λ c κs. search needs) when-voted-requires (λ c. search needs) returns)

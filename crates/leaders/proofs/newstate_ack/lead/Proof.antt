@@ -4,12 +4,9 @@ use borrow.Author.Needs.{needs}
 use Rattle.leaders.proofs.newstate_ack.lead.Statement.{statement}
 use Rattle.leaders.proofs.newstate_ack.lead.Tie as tie
 
-put-mode-requires : tie.Need-put-mode-requires
-put-mode-requires c κs = search needs
-
 returns : tie.Need-returns
 unfolding leading
 returns c = c .put-mode .ensures
 
 pub lead-spec : {M : Type 1} → statement M
-lead-spec = tie.close (tie.spec put-mode-requires returns)
+lead-spec = tie.close (tie.spec (λ c κs. search needs) returns)

@@ -15,20 +15,11 @@ returns c =
     let k : length (line .bytes) ≡ 32 = search needs in
     long-read line (rw length-take (omega (arith, c .if1 .taken)))
 
-sub-order-of-line : tie.Need-sub-order-of-line
-sub-order-of-line c = search needs
-
-part-order-of-line-start : tie.Need-part-order-of-line-start
-part-order-of-line-start c = search needs
-
 part-order-of-line-end : tie.Need-part-order-of-line-end
 part-order-of-line-end c =
     let line = c .before .before .before .args .line in
     let k : length (line .bytes) ≡ 32 = search needs in
     let h : line .len ≤ length (line .bytes) = omega (arith, c .before .before .if1 .left) in h
-
-order-of-line-requires : tie.Need-order-of-line-requires
-order-of-line-requires c κs = search needs
 
 returns-2 : tie.Need-returns-2
 returns-2 c = rw sub-zero at (c .order-of-line .ensures)
@@ -38,8 +29,8 @@ order-held-spec =
     tie.close
     (tie.spec
     returns
-    sub-order-of-line
-    part-order-of-line-start
+    (λ c. search needs)
+    (λ c. search needs)
     part-order-of-line-end
-    order-of-line-requires
+    (λ c κs. search needs)
     returns-2)

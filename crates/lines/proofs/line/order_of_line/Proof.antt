@@ -16,61 +16,42 @@ returns : tie.Need-returns
 unfolding orderOfLine
 returns c = line-read (c .before .before .args .line .now) (sym (pick-true _ _ (lt-ltb _ _ (c .if1 .taken))))
 
-first-space-requires : tie.Need-first-space-requires
-first-space-requires c κs = search needs
-
-add-at : tie.Need-add-at
-add-at c = search needs
-
-sub-order-of-rest : tie.Need-sub-order-of-rest
-sub-order-of-rest c = search needs
-
-part-order-of-rest-start : tie.Need-part-order-of-rest-start
-part-order-of-rest-start c = search needs
-
-part-order-of-rest-end : tie.Need-part-order-of-rest-end
-part-order-of-rest-end c = search needs
-
-sub-order-of-rest-2 : tie.Need-sub-order-of-rest-2
-sub-order-of-rest-2 c = search needs
-
-part-order-of-rest-start-2 : tie.Need-part-order-of-rest-start-2
-part-order-of-rest-start-2 c = search needs
-
-part-order-of-rest-end-2 : tie.Need-part-order-of-rest-end-2
-part-order-of-rest-end-2 c = search needs
-
-order-of-rest-requires : tie.Need-order-of-rest-requires
-order-of-rest-requires c κs = search needs
-
 returns-2 : tie.Need-returns-2
 unfolding orderOfLine
 returns-2 c =
-    let line = c .before .before .before .before .before .before .before .args .line .now in
-    let k = c .before .before .before .before .first-space in
-    line-read line (c .order-of-rest .ensures ∙ rw (sub-zero, rest-of (k .result + 1) line)
-    (sym (ap orderOfWords (words-cut line (k .result) (k .ensures .1) (c .before .before .before .if2 .taken))) ∙ sym (pick-false _ _ (le-ltb _ _ (c .before .before .before .before .before .if1 .left)))))
+    let order-of-rest-says = c .order-of-rest .ensures in
+    let if2-taken = c .before .before .before .if2 .taken in
+    let at-4 = c .before .before .before .before in
+    let if1-left = at-4 .before .if1 .left in
+    let given = at-4 .before .before .before .args in
+    let line = given .line .now in
+    let k = at-4 .first-space in
+    line-read line (order-of-rest-says ∙ rw (sub-zero, rest-of (k .result + 1) line)
+    (sym (ap orderOfWords (words-cut line (k .result) (k .ensures .1) (if2-taken))) ∙ sym (pick-false _ _ (le-ltb _ _ (if1-left)))))
 
 returns-3 : tie.Need-returns-3
 unfolding orderOfLine orderOfWords
 returns-3 c =
-    let line = c .before .before .before .before .args .line .now in
+    let if2-left = c .if2 .left in
+    let if1-left = c .before .before .if1 .left in
+    let given = c .before .before .before .before .args in
+    let line = given .line .now in
     let k = c .before .first-space in
-    line-read line (sym (pick-false _ _ (le-ltb _ _ (c .before .before .if1 .left)) ∙ ap orderOfWords (words-whole line (k .result) (k .ensures .1) (c .if2 .left))))
+    line-read line (sym (pick-false _ _ (le-ltb _ _ (if1-left)) ∙ ap orderOfWords (words-whole line (k .result) (k .ensures .1) (if2-left))))
 
 pub order-of-line-spec : {M : Type 1} → statement M
 order-of-line-spec =
     tie.close
     (tie.spec
     returns
-    first-space-requires
-    add-at
-    sub-order-of-rest
-    part-order-of-rest-start
-    part-order-of-rest-end
-    sub-order-of-rest-2
-    part-order-of-rest-start-2
-    part-order-of-rest-end-2
-    order-of-rest-requires
+    (λ c κs. search needs)
+    (λ c. search needs)
+    (λ c. search needs)
+    (λ c. search needs)
+    (λ c. search needs)
+    (λ c. search needs)
+    (λ c. search needs)
+    (λ c. search needs)
+    (λ c κs. search needs)
     returns-2
     returns-3)

@@ -12,15 +12,9 @@ returns : tie.Need-returns
 unfolding pushed
 returns c = byte-held _ _ (sym (pick-true _ _ (lt-ltb _ _ (c .if1 .taken))))
 
-array-write-bytes : tie.Need-array-write-bytes
-array-write-bytes c = search needs
-
-add-t8 : tie.Need-add-t8
-add-t8 c = search needs
-
 returns-2 : tie.Need-returns-2
 unfolding pushed
 returns-2 c = byte-held _ _ (sym (pick-false _ _ (le-ltb _ _ (c .before .if1 .left))))
 
 pub push-spec : {M : Type 1} → statement M
-push-spec = tie.close (tie.spec returns array-write-bytes add-t8 returns-2)
+push-spec = tie.close (tie.spec returns (λ c. search needs) (λ c. search needs) returns-2)

@@ -6,18 +6,17 @@ use borrow.Author.Needs.{needs}
 use Rattle.lines.proofs.line.two_words.Statement.{statement}
 use Rattle.lines.proofs.line.two_words.Tie as tie
 
-is-number-requires : tie.Need-is-number-requires
-is-number-requires c κs = search needs
-
 value-requires : tie.Need-value-requires
 value-requires c κs = sym (c .before .is-number .ensures) ∙ c .if1 .taken
 
-one-number-requires : tie.Need-one-number-requires
-one-number-requires c κs = search needs
-
 returns : tie.Need-returns
 unfolding orderOfWords
-returns c = c .one-number .ensures ∙ rw (c .before .value .ensures) (sym (pick-true _ _ (sym (c .before .before .before .is-number .ensures) ∙ c .before .before .if1 .taken)))
+returns c =
+    let one-number-says = c .one-number .ensures in
+    let value-says = c .before .value .ensures in
+    let if1-taken = c .before .before .if1 .taken in
+    let is-number-says = c .before .before .before .is-number .ensures in
+    one-number-says ∙ rw (value-says) (sym (pick-true _ _ (sym (is-number-says) ∙ if1-taken)))
 
 returns-2 : tie.Need-returns-2
 unfolding orderOfWords
@@ -25,4 +24,4 @@ returns-2 c = sym (pick-false _ _ (sym (c .before .is-number .ensures) ∙ c .if
 
 pub two-words-spec : {M : Type 1} → statement M
 two-words-spec =
-    tie.close (tie.spec is-number-requires value-requires one-number-requires returns returns-2)
+    tie.close (tie.spec (λ c κs. search needs) value-requires (λ c κs. search needs) returns returns-2)

@@ -35,8 +35,10 @@ loop-less c = search needs
 
 loop-again : tie.Need-loop-again Inv-loop μ-loop
 loop-again c =
+    let is-digit-says = c .is-digit .ensures in
+    let given = c .before .before .before .before .before .args in
     let l = c .before .before .before .loop in
-    (omega arith, l .inv .1, rw (l .inv .2, c .is-digit .ensures) (every-step isDigit (c .before .before .before .before .before .args .s .now) (l .i) (omega arith)))
+    (omega arith, l .inv .1, rw (l .inv .2, is-digit-says) (every-step isDigit (given .s .now) (l .i) (omega arith)))
 
 returns : tie.Need-returns Inv-loop μ-loop
 returns c =

@@ -12,9 +12,6 @@ use Rattle.lines.proofs.words.digit.Tie as tie
 sub-result : tie.Need-sub-result
 sub-result c = let b = c .args .b in leb-true 48 b (and-left (leb 48 b) (leb b 57) (c .pre))
 
-cast-result : tie.Need-cast-result
-cast-result c = search needs
-
 returns : tie.Need-returns
 returns c =
     let b = c .args .b in
@@ -22,4 +19,4 @@ returns c =
     (omega arith, refl)
 
 pub digit-spec : {M : Type 1} → statement M
-digit-spec = tie.close (tie.spec sub-result cast-result returns)
+digit-spec = tie.close (tie.spec sub-result (λ c. search needs) returns)

@@ -23,8 +23,10 @@ shared-slice-read-if1 c = search needs
 
 returns : tie.Need-returns Inv-loop μ-loop
 returns c =
+    let if1-taken = c .if1 .taken in
+    let given = c .before .before .before .before .args in
     let l = c .before .before .before .loop in
-    let e = first-here space (c .before .before .before .before .args .s .now) (l .i) (omega arith) (c .if1 .taken) in
+    let e = first-here space (given .s .now) (l .i) (omega arith) (if1-taken) in
     (omega arith, omega (arith, e))
 
 add-i : tie.Need-add-i Inv-loop μ-loop
@@ -35,8 +37,10 @@ loop-less c = search needs
 
 loop-again : tie.Need-loop-again Inv-loop μ-loop
 loop-again c =
+    let if1-left = c .if1 .left in
+    let given = c .before .before .before .before .args in
     let l = c .before .before .before .loop in
-    let e = first-on space (c .before .before .before .before .args .s .now) (l .i) (omega arith) (c .if1 .left) in
+    let e = first-on space (given .s .now) (l .i) (omega arith) (if1-left) in
     (omega arith, omega (arith, e))
 
 returns-2 : tie.Need-returns-2 Inv-loop μ-loop

@@ -4,12 +4,9 @@ use borrow.Author.Needs.{needs}
 use Rattle.lines.proofs.words.is_number.Statement.{statement}
 use Rattle.lines.proofs.words.is_number.Tie as tie
 
-all-digits-requires : tie.Need-all-digits-requires
-all-digits-requires c κs = search needs
-
 returns : tie.Need-returns
 unfolding isNumber
 returns c = rw (c .all-digits .ensures)
 
 pub is-number-spec : {M : Type 1} → statement M
-is-number-spec = tie.close (tie.spec all-digits-requires returns)
+is-number-spec = tie.close (tie.spec (λ c κs. search needs) returns)

@@ -33,12 +33,19 @@ shared-slice-read-digit : tie.Need-shared-slice-read-digit Inv-loop μ-loop
 shared-slice-read-digit c = search needs
 
 digit-requires : tie.Need-digit-requires Inv-loop μ-loop
-digit-requires c κs = number-digit (c .before .before .before .before .args .s .now) (c .before .before .loop .i) (c .before .before .before .before .pre) (omega arith)
+digit-requires c κs =
+    let given = c .before .before .before .before .args in
+    let asked = c .before .before .before .before .pre in
+    number-digit (given .s .now) (c .before .before .loop .i) (asked) (omega arith)
 
 add-v : tie.Need-add-v Inv-loop μ-loop
 add-v c =
-    let n = number-nine (c .before .before .before .before .before .args .s .now) (c .before .before .before .before .before .pre) in
-    let p : 10 ^ (c .before .before .before .loop .i) ≤ 100000000 = pow-le-pow-right {n = 10} (lit< tt) {i = c .before .before .before .loop .i} {j = 8} (omega arith) in search needs
+    let given = c .before .before .before .before .before .args in
+    let asked = c .before .before .before .before .before .pre in
+    let n = number-nine (given .s .now) (asked) in
+    let p : 10 ^ (c .before .before .before .loop .i) ≤ 100000000 =
+    pow-le-pow-right {n = 10} (lit< tt) {i = c .before .before .before .loop .i} {j = 8} (omega arith) in
+    search needs
 
 add-i : tie.Need-add-i Inv-loop μ-loop
 add-i c = search needs
@@ -49,10 +56,11 @@ loop-less c = search needs
 loop-again : tie.Need-loop-again Inv-loop μ-loop
 unfolding valueOf
 loop-again c =
+    let d = c .digit .ensures in
+    let given = c .before .before .before .before .before .args in
     let l = c .before .before .before .loop in
     let p : 10 ^ (l .i + 1) ≡ 10 ^ l .i * 10 = rw add-one (pow-suc 10 (l .i)) in
-    let d = c .digit .ensures in
-    (omega arith, l .inv .1, rw (l .inv .2, d .1) (over-step (λ (v b : ℕ). v * 10 + (b - 48)) 0 (c .before .before .before .before .before .args .s .now) (l .i) (omega arith)), omega (arith, p, d .0))
+    (omega arith, l .inv .1, rw (l .inv .2, d .1) (over-step (λ (v b : ℕ). v * 10 + (b - 48)) 0 (given .s .now) (l .i) (omega arith)), omega (arith, p, d .0))
 
 returns : tie.Need-returns Inv-loop μ-loop
 returns c =

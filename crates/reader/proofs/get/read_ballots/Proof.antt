@@ -54,8 +54,12 @@ loop-less c = search needs
 loop-again : tie.Need-loop-again Inv-loop μ-loop
 unfolding ballots
 loop-again c =
-    let a = c .before .before .before .before .before .args in let l = c .before .before .before .loop in
-    (omega arith, read-turn ballots 4 noBallot (a .s .now) (l .i) (l .out) (c .read-ballot .result) (omega (arith, c .before .before .before .before .before .pre)) (l .inv .1) (c .read-ballot .ensures))
+    let read-ballot-result = c .read-ballot .result in
+    let read-ballot-says = c .read-ballot .ensures in
+    let a = c .before .before .before .before .before .args in
+    let asked = c .before .before .before .before .before .pre in
+    let l = c .before .before .before .loop in
+    (omega arith, read-turn ballots 4 noBallot (a .s .now) (l .i) (l .out) (read-ballot-result) (omega (arith, asked)) (l .inv .1) (read-ballot-says))
 
 returns : tie.Need-returns Inv-loop μ-loop
 returns c = let a = c .before .before .before .args in let l = c .before .loop in let e : l .i ≡ a .n = omega arith in l .inv .1 ∙ rw e

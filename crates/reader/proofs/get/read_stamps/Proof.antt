@@ -54,8 +54,12 @@ loop-less c = search needs
 loop-again : tie.Need-loop-again Inv-loop μ-loop
 unfolding stamps
 loop-again c =
-    let a = c .before .before .before .before .before .args in let l = c .before .before .before .loop in
-    (omega arith, read-turn stamps 2 noStamp (a .s .now) (l .i) (l .out) (c .read-stamp .result) (omega (arith, c .before .before .before .before .before .pre)) (l .inv .1) (c .read-stamp .ensures))
+    let read-stamp-result = c .read-stamp .result in
+    let read-stamp-says = c .read-stamp .ensures in
+    let a = c .before .before .before .before .before .args in
+    let asked = c .before .before .before .before .before .pre in
+    let l = c .before .before .before .loop in
+    (omega arith, read-turn stamps 2 noStamp (a .s .now) (l .i) (l .out) (read-stamp-result) (omega (arith, asked)) (l .inv .1) (read-stamp-says))
 
 returns : tie.Need-returns Inv-loop μ-loop
 returns c = let a = c .before .before .before .args in let l = c .before .loop in let e : l .i ≡ a .n = omega arith in l .inv .1 ∙ rw e

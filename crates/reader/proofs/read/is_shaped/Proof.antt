@@ -14,70 +14,70 @@ returns : tie.Need-returns
 unfolding shaped
 returns c = rw (lt-leb _ _ (c .if1 .taken))
 
-shared-slice-read-kind : tie.Need-shared-slice-read-kind
-shared-slice-read-kind c = search needs
-
-is-known-requires : tie.Need-is-known-requires
-is-known-requires c κs = search needs
-
 returns-2 : tie.Need-returns-2
 unfolding shaped
 returns-2 c = rw (le-leb _ _ (c .before .before .before .if1 .left), sym (c .before .is-known .ensures) ∙ c .if2 .left)
 
-length-of-requires : tie.Need-length-of-requires
-length-of-requires c κs = search needs
-
 returns-3 : tie.Need-returns-3
 unfolding shaped
 returns-3 c =
-    let a = c .before .before .before .before .before .before .before .args in let s = a .s .now in
-    let n : length s ≢ lengthOf (a .plan) (getD s 1 0) = λ e. c .if3 .left (e ∙ sym (c .before .length-of .ensures)) in
-    rw (le-leb _ _ (c .before .before .before .before .before .if1 .left), sym (c .before .before .before .is-known .ensures) ∙ c .before .before .if2 .taken, ne-eqb (length s) (lengthOf (a .plan) (getD s 1 0)) n)
-
-stamps-at-requires : tie.Need-stamps-at-requires
-stamps-at-requires c κs = search needs
-
-rows-at-requires : tie.Need-rows-at-requires
-rows-at-requires c κs = search needs
-
-shared-slice-read-result : tie.Need-shared-slice-read-result
-shared-slice-read-result c = search needs
-
-shared-slice-read-result-2 : tie.Need-shared-slice-read-result-2
-shared-slice-read-result-2 c = search needs
-
-ballots-in-requires : tie.Need-ballots-in-requires
-ballots-in-requires c κs = search needs
+    let if3-left = c .if3 .left in
+    let length-of-says = c .before .length-of .ensures in
+    let if2-taken = c .before .before .if2 .taken in
+    let is-known-says = c .before .before .before .is-known .ensures in
+    let at-5 = c .before .before .before .before .before in
+    let if1-left = at-5 .if1 .left in
+    let a = at-5 .before .before .args in
+    let s = a .s .now in
+    let n : length s ≢ lengthOf (a .plan) (getD s 1 0) = λ e. if3-left (e ∙ sym (length-of-says)) in
+    rw (le-leb _ _ (if1-left), sym (is-known-says) ∙ if2-taken, ne-eqb (length s) (lengthOf (a .plan) (getD s 1 0)) n)
 
 shared-slice-read-result-3 : tie.Need-shared-slice-read-result-3
 shared-slice-read-result-3 c =
-    let a = c .before .before .before .before .before .before .before .before .before .before .before .before .before .args in
-    omega (arith, c .before .before .before .before .before .stamps-at .ensures .0, c .before .before .before .before .before .before .if3 .taken, c .before .before .before .before .before .before .before .length-of .ensures, stamps-inside (a .plan) (getD (a .s .now) 1 0))
-
-stamps-in-requires : tie.Need-stamps-in-requires
-stamps-in-requires c κs = search needs
+    let stamps-at-says = c .before .before .before .before .before .stamps-at .ensures in
+    let at-6 = c .before .before .before .before .before .before in
+    let if3-taken = at-6 .if3 .taken in
+    let at-7 = at-6 .before in
+    let length-of-says = at-7 .length-of .ensures in
+    let a = at-7 .before .before .before .before .before .before .args in
+    omega (arith, stamps-at-says .0, if3-taken, length-of-says, stamps-inside (a .plan) (getD (a .s .now) 1 0))
 
 shared-slice-read-result-4 : tie.Need-shared-slice-read-result-4
 shared-slice-read-result-4 c =
-    let a = c .before .before .before .before .before .before .before .before .before .before .before .before .before .before .before .args in
-    omega (arith, c .before .before .before .before .before .before .rows-at .ensures .0, c .before .before .before .before .before .before .before .before .if3 .taken, c .before .before .before .before .before .before .before .before .before .length-of .ensures, rows-inside (a .plan) (getD (a .s .now) 1 0))
-
-rows-in-requires : tie.Need-rows-in-requires
-rows-in-requires c κs = search needs
+    let at-6 = c .before .before .before .before .before .before in
+    let rows-at-says = at-6 .rows-at .ensures in
+    let if3-taken = at-6 .before .before .if3 .taken in
+    let at-9 = at-6 .before .before .before in
+    let length-of-says = at-9 .length-of .ensures in
+    let a = at-9 .before .before .before .before .before .before .args in
+    omega (arith, rows-at-says .0, if3-taken, length-of-says, rows-inside (a .plan) (getD (a .s .now) 1 0))
 
 returns-4 : tie.Need-returns-4
 unfolding shaped
 returns-4 c =
-    let a = c .before .before .before .before .before .before .before .before .before .before .before .before .before .before .before .before .args in let s = a .s .now in
+    let rows-in-says = c .rows-in .ensures in
+    let stamps-in-says = c .before .before .stamps-in .ensures in
+    let at-4 = c .before .before .before .before in
+    let ballots-in-says = at-4 .ballots-in .ensures in
+    let rows-at-says = at-4 .before .before .before .rows-at .ensures in
+    let stamps-at-says = at-4 .before .before .before .before .stamps-at .ensures in
+    let if3-taken = at-4 .before .before .before .before .before .if3 .taken in
+    let at-10 = at-4 .before .before .before .before .before .before in
+    let length-of-says = at-10 .length-of .ensures in
+    let if2-taken = at-10 .before .if2 .taken in
+    let is-known-says = at-10 .before .before .is-known .ensures in
+    let if1-left = at-10 .before .before .before .before .if1 .left in
+    let a = at-10 .before .before .before .before .before .before .args in
+    let s = a .s .now in
     rw (
-      le-leb _ _ (c .before .before .before .before .before .before .before .before .before .before .before .before .before .before .if1 .left),
-      sym (c .before .before .before .before .before .before .before .before .before .before .before .before .is-known .ensures) ∙ c .before .before .before .before .before .before .before .before .before .before .before .if2 .taken,
-      eq-eqb (length s) (lengthOf (a .plan) (getD s 1 0)) (c .before .before .before .before .before .before .before .before .before .if3 .taken ∙ c .before .before .before .before .before .before .before .before .before .before .length-of .ensures),
-      c .rows-in .ensures,
-      c .before .before .stamps-in .ensures,
-      c .before .before .before .before .ballots-in .ensures,
-      c .before .before .before .before .before .before .before .rows-at .ensures .0,
-      c .before .before .before .before .before .before .before .before .stamps-at .ensures .0,
+      le-leb _ _ (if1-left),
+      sym (is-known-says) ∙ if2-taken,
+      eq-eqb (length s) (lengthOf (a .plan) (getD s 1 0)) (if3-taken ∙ length-of-says),
+      rows-in-says,
+      stamps-in-says,
+      ballots-in-says,
+      rows-at-says .0,
+      stamps-at-says .0,
     )
 
 pub is-shaped-spec : {M : Type 1} → statement M
@@ -85,18 +85,18 @@ is-shaped-spec =
     tie.close
     (tie.spec
     returns
-    shared-slice-read-kind
-    is-known-requires
+    (λ c. search needs)
+    (λ c κs. search needs)
     returns-2
-    length-of-requires
+    (λ c κs. search needs)
     returns-3
-    stamps-at-requires
-    rows-at-requires
-    shared-slice-read-result
-    shared-slice-read-result-2
-    ballots-in-requires
+    (λ c κs. search needs)
+    (λ c κs. search needs)
+    (λ c. search needs)
+    (λ c. search needs)
+    (λ c κs. search needs)
     shared-slice-read-result-3
-    stamps-in-requires
+    (λ c κs. search needs)
     shared-slice-read-result-4
-    rows-in-requires
+    (λ c κs. search needs)
     returns-4)

@@ -26,23 +26,8 @@ sub-read-head c = omega (arith, shape (c .before) .some)
 part-read-head-start : tie.Need-part-read-head-start
 part-read-head-start c = omega (arith, shape (c .before) .some)
 
-part-read-head-end : tie.Need-part-read-head-end
-part-read-head-end c = search needs
-
 read-head-requires : tie.Need-read-head-requires
 read-head-requires c κs = rest-room 1 4 _ (c .before .before .args .s .now) refl (omega (arith, shape (c .before .before) .some))
-
-stamps-at-requires : tie.Need-stamps-at-requires
-stamps-at-requires c κs = search needs
-
-add-p : tie.Need-add-p
-add-p c = search needs
-
-rows-at-requires : tie.Need-rows-at-requires
-rows-at-requires c κs = search needs
-
-add-q : tie.Need-add-q
-add-q c = search needs
 
 sub-read-ballots : tie.Need-sub-read-ballots
 sub-read-ballots c = omega (arith, shape (c .before .before .before .before .before) .some)
@@ -50,75 +35,99 @@ sub-read-ballots c = omega (arith, shape (c .before .before .before .before .bef
 part-read-ballots-start : tie.Need-part-read-ballots-start
 part-read-ballots-start c = omega (arith, shape (c .before .before .before .before .before) .some)
 
-part-read-ballots-end : tie.Need-part-read-ballots-end
-part-read-ballots-end c = search needs
-
-ballots-in-requires : tie.Need-ballots-in-requires
-ballots-in-requires c κs = search needs
-
 read-ballots-requires : tie.Need-read-ballots-requires
 read-ballots-requires c κs =
-    let a = c .before .before .before .before .before .before .before .args in let s = a .s .now in let k = getD s 1 0 in
-    let e = rw (kind-is (c .before .before .before .before)) at (c .ballots-in .ensures) in
-    let h : 6 + c .ballots-in .result * 3 ≤ length s = omega (arith, shape (c .before .before .before .before .before .before .before) .whole, ballots-inside (a .plan) k, e) in
-    (rw e (ballots-most (a .plan) k (c .before .before .before .before .before .before .before .pre .0)), rest-room 6 (c .ballots-in .result * 3) _ s refl h)
+    let ballots-in-says = c .ballots-in .ensures in
+    let ballots-in-result = c .ballots-in .result in
+    let at-4 = c .before .before .before .before in
+    let at-7 = at-4 .before .before .before in
+    let a = at-7 .args in
+    let asked = at-7 .pre in
+    let s = a .s .now in let k = getD s 1 0 in
+    let e = rw (kind-is (at-4)) at (ballots-in-says) in
+    let h : 6 + ballots-in-result * 3 ≤ length s = omega (arith, shape (at-7) .whole, ballots-inside (a .plan) k, e) in
+    (rw e (ballots-most (a .plan) k (asked .0)), rest-room 6 (ballots-in-result * 3) _ s refl h)
 
 sub-read-stamps : tie.Need-sub-read-stamps
 sub-read-stamps c =
-    let a = c .before .before .before .before .before .before .before .before .args in
-    omega (arith, shape (c .before .before .before .before .before .before .before .before) .whole, stamps-inside (a .plan) (getD (a .s .now) 1 0), rw (kind-is (c .before .before .before .before .before)) at (c .before .before .before .before .stamps-at .ensures .0))
+    let stamps-at-says = c .before .before .before .before .stamps-at .ensures in
+    let at-5 = c .before .before .before .before .before in
+    let at-8 = at-5 .before .before .before in
+    let a = at-8 .args in
+    omega (arith, shape (at-8) .whole, stamps-inside (a .plan) (getD (a .s .now) 1 0), rw (kind-is (at-5)) at (stamps-at-says .0))
 
 part-read-stamps-start : tie.Need-part-read-stamps-start
 part-read-stamps-start c = sub-read-stamps c
 
-part-read-stamps-end : tie.Need-part-read-stamps-end
-part-read-stamps-end c = search needs
-
-stamps-in-requires : tie.Need-stamps-in-requires
-stamps-in-requires c κs = search needs
-
 read-stamps-requires : tie.Need-read-stamps-requires
 read-stamps-requires c κs =
-    let a = c .before .before .before .before .before .before .before .before .before .before .args in let s = a .s .now in let k = getD s 1 0 in
-    let e = rw (kind-is (c .before .before .before .before .before .before .before)) at (c .stamps-in .ensures) in let f = rw (kind-is (c .before .before .before .before .before .before .before)) at (c .before .before .before .before .before .before .stamps-at .ensures .0) in
-    let h : c .before .before .before .before .before .before .stamps-at .result + 1 + c .stamps-in .result * 5 ≤ length s = omega (arith, shape (c .before .before .before .before .before .before .before .before .before .before) .whole, stamps-inside (a .plan) k, f, e) in
-    (rw e (stamps-most k), rest-room (c .before .before .before .before .before .before .stamps-at .result + 1) (c .stamps-in .result * 5) _ s refl h)
+    let stamps-in-says = c .stamps-in .ensures in
+    let stamps-in-result = c .stamps-in .result in
+    let at-6 = c .before .before .before .before .before .before in
+    let stamps-at-says = at-6 .stamps-at .ensures in
+    let stamps-at-result = at-6 .stamps-at .result in
+    let at-7 = at-6 .before in
+    let at-10 = at-7 .before .before .before in
+    let a = at-10 .args in
+    let s = a .s .now in let k = getD s 1 0 in
+    let e = rw (kind-is (at-7)) at (stamps-in-says) in let f = rw (kind-is (at-7)) at (stamps-at-says .0) in
+    let h : stamps-at-result + 1 + stamps-in-result * 5 ≤ length s = omega (arith, shape (at-10) .whole, stamps-inside (a .plan) k, f, e) in
+    (rw e (stamps-most k), rest-room (stamps-at-result + 1) (stamps-in-result * 5) _ s refl h)
 
 sub-read-rows : tie.Need-sub-read-rows
 sub-read-rows c =
-    let a = c .before .before .before .before .before .before .before .before .before .before .before .args in
-    omega (arith, shape (c .before .before .before .before .before .before .before .before .before .before .before) .whole, rows-inside (a .plan) (getD (a .s .now) 1 0), rw (kind-is (c .before .before .before .before .before .before .before .before)) at (c .before .before .before .before .before .before .rows-at .ensures .0))
+    let at-6 = c .before .before .before .before .before .before in
+    let rows-at-says = at-6 .rows-at .ensures in
+    let at-8 = at-6 .before .before in
+    let at-11 = at-8 .before .before .before in
+    let a = at-11 .args in
+    omega (arith, shape (at-11) .whole, rows-inside (a .plan) (getD (a .s .now) 1 0), rw (kind-is (at-8)) at (rows-at-says .0))
 
 part-read-rows-start : tie.Need-part-read-rows-start
 part-read-rows-start c = sub-read-rows c
 
-part-read-rows-end : tie.Need-part-read-rows-end
-part-read-rows-end c = search needs
-
-rows-in-requires : tie.Need-rows-in-requires
-rows-in-requires c κs = search needs
-
 read-rows-requires : tie.Need-read-rows-requires
 read-rows-requires c κs =
-    let a = c .before .before .before .before .before .before .before .before .before .before .before .before .before .args in let s = a .s .now in let k = getD s 1 0 in
-    let e = rw (kind-is (c .before .before .before .before .before .before .before .before .before .before)) at (c .rows-in .ensures) in let f = rw (kind-is (c .before .before .before .before .before .before .before .before .before .before)) at (c .before .before .before .before .before .before .before .before .rows-at .ensures .0) in
-    let h : c .before .before .before .before .before .before .before .before .rows-at .result + 1 + c .rows-in .result * 11 ≤ length s = omega (arith, shape (c .before .before .before .before .before .before .before .before .before .before .before .before .before) .whole, rows-inside (a .plan) k, f, e) in
-    (rw e (rows-most (a .plan) k (c .before .before .before .before .before .before .before .before .before .before .before .before .before .pre .0)), rest-room (c .before .before .before .before .before .before .before .before .rows-at .result + 1) (c .rows-in .result * 11) _ s refl h)
+    let rows-in-says = c .rows-in .ensures in
+    let rows-in-result = c .rows-in .result in
+    let at-6 = c .before .before .before .before .before .before in
+    let rows-at-says = at-6 .before .before .rows-at .ensures in
+    let rows-at-result = at-6 .before .before .rows-at .result in
+    let at-10 = at-6 .before .before .before .before in
+    let at-13 = at-10 .before .before .before in
+    let a = at-13 .args in
+    let asked = at-13 .pre in
+    let s = a .s .now in let k = getD s 1 0 in
+    let e = rw (kind-is (at-10)) at (rows-in-says) in let f = rw (kind-is (at-10)) at (rows-at-says .0) in
+    let h : rows-at-result + 1 + rows-in-result * 11 ≤ length s = omega (arith, shape (at-13) .whole, rows-inside (a .plan) k, f, e) in
+    (rw e (rows-most (a .plan) k (asked .0)), rest-room (rows-at-result + 1) (rows-in-result * 11) _ s refl h)
 
 returns : tie.Need-returns
 unfolding parse
 returns c =
-    let a = c .before .before .before .before .before .before .before .before .before .before .before .before .before .before .before .before .args in let s = a .s .now in let k = getD s 1 0 in
+    let read-rows-says = c .before .before .read-rows .ensures in
+    let rows-in-says = c .before .before .before .rows-in .ensures in
+    let read-stamps-says = c .before .before .before .before .before .read-stamps .ensures in
+    let at-6 = c .before .before .before .before .before .before in
+    let stamps-in-says = at-6 .stamps-in .ensures in
+    let read-ballots-says = at-6 .before .before .read-ballots .ensures in
+    let ballots-in-says = at-6 .before .before .before .ballots-in .ensures in
+    let rows-at-says = at-6 .before .before .before .before .before .rows-at .ensures in
+    let at-12 = at-6 .before .before .before .before .before .before in
+    let stamps-at-says = at-12 .stamps-at .ensures in
+    let read-head-says = at-12 .before .read-head .ensures in
+    let a = at-12 .before .before .before .before .args in
+    let s = a .s .now in let k = getD s 1 0 in
     rw (
-      c .before .before .read-rows .ensures,
-      c .before .before .before .before .before .read-stamps .ensures,
-      c .before .before .before .before .before .before .before .before .read-ballots .ensures,
-      c .before .before .before .rows-in .ensures,
-      c .before .before .before .before .before .before .stamps-in .ensures,
-      c .before .before .before .before .before .before .before .before .before .ballots-in .ensures,
-      c .before .before .before .before .before .before .before .before .before .before .before .rows-at .ensures .0,
-      c .before .before .before .before .before .before .before .before .before .before .before .before .stamps-at .ensures .0,
-      head-behind s (c .before .before .before .before .before .before .before .before .before .before .before .before .before .read-head .ensures),
+      read-rows-says,
+      read-stamps-says,
+      read-ballots-says,
+      rows-in-says,
+      stamps-in-says,
+      ballots-in-says,
+      rows-at-says .0,
+      stamps-at-says .0,
+      head-behind s (read-head-says),
       rest-of 6 s,
       rest-of (stampsAt (a .plan) k + 1) s,
       rest-of (rowsAt (a .plan) k + 1) s,
@@ -130,25 +139,25 @@ parse-record-spec =
     (tie.spec
     sub-read-head
     part-read-head-start
-    part-read-head-end
+    (λ c. search needs)
     read-head-requires
-    stamps-at-requires
-    add-p
-    rows-at-requires
-    add-q
+    (λ c κs. search needs)
+    (λ c. search needs)
+    (λ c κs. search needs)
+    (λ c. search needs)
     sub-read-ballots
     part-read-ballots-start
-    part-read-ballots-end
-    ballots-in-requires
+    (λ c. search needs)
+    (λ c κs. search needs)
     read-ballots-requires
     sub-read-stamps
     part-read-stamps-start
-    part-read-stamps-end
-    stamps-in-requires
+    (λ c. search needs)
+    (λ c κs. search needs)
     read-stamps-requires
     sub-read-rows
     part-read-rows-start
-    part-read-rows-end
-    rows-in-requires
+    (λ c. search needs)
+    (λ c κs. search needs)
     read-rows-requires
     returns)

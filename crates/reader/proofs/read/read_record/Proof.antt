@@ -6,12 +6,6 @@ use borrow.Author.Needs.{needs}
 use Rattle.reader.proofs.read.read_record.Statement.{statement}
 use Rattle.reader.proofs.read.read_record.Tie as tie
 
-plan-sound-requires : tie.Need-plan-sound-requires
-plan-sound-requires c κs = search needs
-
-refused-requires : tie.Need-refused-requires
-refused-requires c κs = search needs
-
 returns : tie.Need-returns
 unfolding reads readRecord readAnswer readNo
 returns c = read-promised (c .refused .ensures ∙ rw (sym (c .before .before .plan-sound .ensures) ∙ c .before .if1 .left))
@@ -23,4 +17,4 @@ returns-2 : tie.Need-returns-2
 returns-2 c = c .read-bytes .ensures
 
 pub read-record-spec : {M : Type 1} → statement M
-read-record-spec = tie.close (tie.spec plan-sound-requires refused-requires returns read-bytes-requires returns-2)
+read-record-spec = tie.close (tie.spec (λ c κs. search needs) (λ c κs. search needs) returns read-bytes-requires returns-2)

@@ -5,15 +5,9 @@ use borrow.Author.Needs.{needs}
 use Rattle.records.proofs.format.ballots_in.Statement.{statement}
 use Rattle.records.proofs.format.ballots_in.Tie as tie
 
-entry-of-requires : tie.Need-entry-of-requires
-entry-of-requires c κs = search needs
-
-or-plan-requires : tie.Need-or-plan-requires
-or-plan-requires c κs = search needs
-
 returns : tie.Need-returns
 unfolding ballotsIn
 returns c = c .or-plan .ensures ∙ rw (c .before .entry-of .ensures)
 
 pub ballots-in-spec : {M : Type 1} → statement M
-ballots-in-spec = tie.close (tie.spec entry-of-requires or-plan-requires returns)
+ballots-in-spec = tie.close (tie.spec (λ c κs. search needs) (λ c κs. search needs) returns)

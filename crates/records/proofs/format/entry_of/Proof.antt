@@ -8,22 +8,13 @@ use borrow.Author.Needs.{needs}
 use Rattle.records.proofs.format.entry_of.Statement.{statement}
 use Rattle.records.proofs.format.entry_of.Tie as tie
 
-mul-at : tie.Need-mul-at
-mul-at c = search needs
-
-add-at : tie.Need-add-at
-add-at c = search needs
-
 returns : tie.Need-returns
 unfolding entry
 returns c = let a = c .before .args in sym (List·getD-eq-default format 0 {n = a .kind * 4 + a .i} (omega (arith, c .if1 .taken)))
-
-array-read-result : tie.Need-array-read-result
-array-read-result c = search needs
 
 returns-2 : tie.Need-returns-2
 unfolding entry
 returns-2 c = refl
 
 pub entry-of-spec : {M : Type 1} → statement M
-entry-of-spec = tie.close (tie.spec mul-at add-at returns array-read-result returns-2)
+entry-of-spec = tie.close (tie.spec (λ c. search needs) (λ c. search needs) returns (λ c. search needs) returns-2)

@@ -4,12 +4,9 @@ use borrow.Author.Needs.{needs}
 use Rattle.records.proofs.format.has_job.Statement.{statement}
 use Rattle.records.proofs.format.has_job.Tie as tie
 
-entry-of-requires : tie.Need-entry-of-requires
-entry-of-requires c κs = search needs
-
 returns : tie.Need-returns
 unfolding hasJob
 returns c = rw (c .entry-of .ensures)
 
 pub has-job-spec : {M : Type 1} → statement M
-has-job-spec = tie.close (tie.spec entry-of-requires returns)
+has-job-spec = tie.close (tie.spec (λ c κs. search needs) returns)

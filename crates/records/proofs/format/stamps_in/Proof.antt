@@ -4,12 +4,9 @@ use borrow.Author.Needs.{needs}
 use Rattle.records.proofs.format.stamps_in.Statement.{statement}
 use Rattle.records.proofs.format.stamps_in.Tie as tie
 
-entry-of-requires : tie.Need-entry-of-requires
-entry-of-requires c κs = search needs
-
 returns : tie.Need-returns
 unfolding stampsIn
 returns c = c .entry-of .ensures
 
 pub stamps-in-spec : {M : Type 1} → statement M
-stamps-in-spec = tie.close (tie.spec entry-of-requires returns)
+stamps-in-spec = tie.close (tie.spec (λ c κs. search needs) returns)

@@ -7,11 +7,8 @@ use Rattle.rehearsal.proofs.exists.known_plan.Tie as tie
 returns : tie.Need-returns
 returns c = sym (c .before .pre (c .if1 .taken))
 
-plan-sound-requires : tie.Need-plan-sound-requires
-plan-sound-requires c κs = search needs
-
 returns-2 : tie.Need-returns-2
 returns-2 c = c .plan-sound .ensures
 
 pub known-plan-spec : {M : Type 1} → statement M
-known-plan-spec = tie.close (tie.spec returns plan-sound-requires returns-2)
+known-plan-spec = tie.close (tie.spec returns (λ c κs. search needs) returns-2)

@@ -12,11 +12,8 @@ lengths c = owned-lengths (c .args .x) _ (c .good .1 .1 .0 .1 .1)
 returns : tie.Need-returns
 returns c = (sym (c .before .pre (c .if1 .taken)), lengths (c .before))
 
-is-sound-requires : tie.Need-is-sound-requires
-is-sound-requires c κs = search needs
-
 returns-2 : tie.Need-returns-2
 returns-2 c = (c .is-sound .ensures, lengths (c .before .before))
 
 pub known-sound-spec : {M : Type 1} → statement M
-known-sound-spec = tie.close (tie.spec returns is-sound-requires returns-2)
+known-sound-spec = tie.close (tie.spec returns (λ c κs. search needs) returns-2)

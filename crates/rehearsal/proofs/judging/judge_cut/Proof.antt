@@ -17,24 +17,12 @@ there c used s =
     let a = c .before .before .args in let n = c .before .boxes-of in
     box-there (a .plan) used s (a .p) (n .result) (n .ensures .0) (c .if1 .taken) .1
 
-boxes-of-requires : tie.Need-boxes-of-requires
-boxes-of-requires c κs = search needs
-
-cast-if1 : tie.Need-cast-if1
-cast-if1 c = search needs
-
-refuse-requires : tie.Need-refuse-requires
-refuse-requires c κs = search needs
-
 returns : tie.Need-returns
 returns c used x s k L =
     let a = c .before .before .before in let n = c .before .before .boxes-of in
     let h = box-missing (a .args .plan) used s (a .args .p) (n .result) (n .ensures .0) (c .before .if1 .left) in
     rw (c .refuse .ensures)
     (judges-no _ _ (none-such (a .args .plan) used x s (Cut (a .args .p)) (a .pre) (h .1)))
-
-refuse-requires-2 : tie.Need-refuse-requires-2
-refuse-requires-2 c κs = search needs
 
 returns-2 : tie.Need-returns-2
 returns-2 c used x s k L =
@@ -43,19 +31,30 @@ returns-2 c used x s k L =
     (judges-no _ _ (acts-no (a .args .plan) used x s (Cut (a .args .p)) notSound (a .pre) (there (c .before .before) used s)
     (cut-unsound (a .args .plan) used x s (sym k ∙ c .before .if2 .left) (a .args .p))))
 
-no-record-requires : tie.Need-no-record-requires
-no-record-requires c κs = search needs
-
-go-requires : tie.Need-go-requires
-go-requires c κs = search needs
-
 returns-3 : tie.Need-returns-3
 returns-3 c used x s k L =
     let a = c .before .before .before .before .before in
     let h = sym k ∙ c .before .before .if2 .taken in
     rw (c .go .ensures)
-    (judges-go (goes-kept (a .pre) (there (c .before .before .before) used s) (a .pre) refl (cut-acts (a .args .plan) used x s h (a .args .p) (c .before .no-record .result)) (cut-keeps (a .args .plan) used x s h L (a .args .p))))
+    (judges-go
+    (goes-kept
+    (a .pre)
+    (there (c .before .before .before) used s)
+    (a .pre)
+    refl
+    (cut-acts (a .args .plan) used x s h (a .args .p) (c .before .no-record .result))
+    (cut-keeps (a .args .plan) used x s h L (a .args .p))))
 
 pub judge-cut-spec : {M : Type 1} → statement M
 judge-cut-spec =
-    tie.close (tie.spec boxes-of-requires cast-if1 refuse-requires returns refuse-requires-2 returns-2 no-record-requires go-requires returns-3)
+    tie.close
+    (tie.spec
+    (λ c κs. search needs)
+    (λ c. search needs)
+    (λ c κs. search needs)
+    returns
+    (λ c κs. search needs)
+    returns-2
+    (λ c κs. search needs)
+    (λ c κs. search needs)
+    returns-3)

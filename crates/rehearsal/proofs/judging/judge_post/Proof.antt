@@ -11,29 +11,13 @@ use borrow.Author.Needs.{needs}
 use Rattle.rehearsal.proofs.judging.judge_post.Statement.{statement}
 use Rattle.rehearsal.proofs.judging.judge_post.Tie as tie
 
-cast-if1 : tie.Need-cast-if1
-cast-if1 c = search needs
-
-refuse-requires : tie.Need-refuse-requires
-refuse-requires c κs = search needs
-
 returns : tie.Need-returns
 unfolding exists isJob
 returns c used x s =
     let a = c .before .before .before in
-    rw (c .refuse .ensures) (judges-no _ _ (none-such (a .args .plan) used x s (Post (a .args .j)) (a .pre) (le-ltb (a .args .j) (a .args .plan .jobs) (c .before .if1 .left))))
-
-office-of-requires : tie.Need-office-of-requires
-office-of-requires c κs = search needs
-
-cast-multicast-record : tie.Need-cast-multicast-record
-cast-multicast-record c = search needs
-
-multicast-record-requires : tie.Need-multicast-record-requires
-multicast-record-requires c κs = search needs
-
-go-requires : tie.Need-go-requires
-go-requires c κs = search needs
+    rw
+    (c .refuse .ensures)
+    (judges-no _ _ (none-such (a .args .plan) used x s (Post (a .args .j)) (a .pre) (le-ltb (a .args .j) (a .args .plan .jobs) (c .before .if1 .left))))
 
 returns-2 : tie.Need-returns-2
 unfolding exists isJob
@@ -42,7 +26,27 @@ returns-2 c used x s =
     let r : c .before .multicast-record .result ≡ carried (multicast (officeOf (a .args .plan)) (officeOf (a .args .plan)) (a .args .j)) =
     c .before .multicast-record .ensures ∙ rw (c .before .before .office-of .ensures) in
     rw (c .go .ensures)
-    (judges-go (goes-post (a .args .plan) used x s (a .args .j) _ (a .pre) (lt-ltb (a .args .j) (a .args .plan .jobs) (c .before .before .before .if1 .taken)) (posts-sent (a .args .plan) (a .args .j) _ r)))
+    (judges-go
+    (goes-post
+    (a .args .plan)
+    used
+    x
+    s
+    (a .args .j)
+    _
+    (a .pre)
+    (lt-ltb (a .args .j) (a .args .plan .jobs) (c .before .before .before .if1 .taken))
+    (posts-sent (a .args .plan) (a .args .j) _ r)))
 
 pub judge-post-spec : {M : Type 1} → statement M
-judge-post-spec = tie.close (tie.spec cast-if1 refuse-requires returns office-of-requires cast-multicast-record multicast-record-requires go-requires returns-2)
+judge-post-spec =
+    tie.close
+    (tie.spec
+    (λ c. search needs)
+    (λ c κs. search needs)
+    returns
+    (λ c κs. search needs)
+    (λ c. search needs)
+    (λ c κs. search needs)
+    (λ c κs. search needs)
+    returns-2)

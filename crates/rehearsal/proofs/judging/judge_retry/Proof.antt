@@ -19,7 +19,8 @@ use borrow.Author.Needs.{needs}
 use Rattle.rehearsal.proofs.judging.judge_retry.Statement.{statement}
 use Rattle.rehearsal.proofs.judging.judge_retry.Tie as tie
 
-there : (c : tie.Then1) (used : ℕ) (s : List ℕ) → exists (c .before .before .before .args .plan) (here used) s (Retry (c .before .before .before .args .p) (c .before .before .before .args .j)) ≡ true
+there : (c : tie.Then1) (used : ℕ) (s : List ℕ)
+    → exists (c .before .before .before .args .plan) (here used) s (Retry (c .before .before .before .args .p) (c .before .before .before .args .j)) ≡ true
 unfolding exists isJob
 there c used s =
     let a = c .before .before .before .args in
@@ -29,23 +30,13 @@ there c used s =
 -- a job of the plan has one byte
 low : (c : tie.Then1) → c .before .before .before .args .j < 256
 low c =
+    let if1-taken = c .if1 .taken in
+    let boxes-of-result = c .before .before .boxes-of .result in
     let a = c .before .before .before in
-    let t : (ltb (a .args .p) (c .before .before .boxes-of .result) && ltb (a .args .j) (a .args .plan .jobs)) ≡ true = c .if1 .taken in
-    let l = ltb-true (a .args .j) (a .args .plan .jobs) (and-right (ltb (a .args .p) (c .before .before .boxes-of .result)) (ltb (a .args .j) (a .args .plan .jobs)) t) in
+    let t : (ltb (a .args .p) (boxes-of-result) && ltb (a .args .j) (a .args .plan .jobs)) ≡ true = if1-taken in
+    let l = ltb-true (a .args .j) (a .args .plan .jobs) (and-right (ltb (a .args .p) (boxes-of-result)) (ltb (a .args .j) (a .args .plan .jobs)) t) in
     let m = plan-says (a .args .plan) (a .pre .0) .jobs-most in
     omega (arith, l, m)
-
-boxes-of-requires : tie.Need-boxes-of-requires
-boxes-of-requires c κs = search needs
-
-cast-if1 : tie.Need-cast-if1
-cast-if1 c = search needs
-
-cast-if1-2 : tie.Need-cast-if1-2
-cast-if1-2 c = search needs
-
-refuse-requires : tie.Need-refuse-requires
-refuse-requires c κs = search needs
 
 returns : tie.Need-returns
 unfolding exists isJob
@@ -53,10 +44,10 @@ returns c used s =
     let a = c .before .before .before .before in
     let t : (ltb (a .args .p) (c .before .before .before .boxes-of .result) && ltb (a .args .j) (a .args .plan .jobs)) ≡ false = c .before .if1 .left in
     rw (c .refuse .ensures)
-    (judges-no _ _ (none-such (a .args .plan) used (a .args .x) s (Retry (a .args .p) (a .args .j)) (a .pre .0) (rw (← c .before .before .before .boxes-of .ensures .0) t)))
-
-refuse-requires-2 : tie.Need-refuse-requires-2
-refuse-requires-2 c κs = search needs
+    (judges-no
+    _
+    _
+    (none-such (a .args .plan) used (a .args .x) s (Retry (a .args .p) (a .args .j)) (a .pre .0) (rw (← c .before .before .before .boxes-of .ensures .0) t)))
 
 returns-2 : tie.Need-returns-2
 returns-2 c used s =
@@ -68,63 +59,59 @@ returns-2 c used s =
 cast-decide-retry : tie.Need-cast-decide-retry
 cast-decide-retry c = let l = low (c .before) in omega (arith, l)
 
-decide-retry-requires : tie.Need-decide-retry-requires
-decide-retry-requires c κs = search needs
-
-enum-known-answer : tie.Need-enum-known-answer
-enum-known-answer c = search needs
-
-refuse-requires-3 : tie.Need-refuse-requires-3
-refuse-requires-3 c κs = search needs
-
-enum-told : tie.Need-enum-told
-enum-told c = search needs
-
 cast-multicast-record : tie.Need-cast-multicast-record
 cast-multicast-record c = let l = low (c .before .before .before .before .before .before) in omega (arith, l)
-
-multicast-record-requires : tie.Need-multicast-record-requires
-multicast-record-requires c κs = search needs
-
-go-requires : tie.Need-go-requires
-go-requires c κs = search needs
 
 returns-3 : tie.Need-returns-3
 returns-3 c used s =
     let a = c .before .before .before .before .before .before .before .before .before in
     let h = sym (a .pre .1) ∙ c .before .before .before .before .before .if2 .taken in
-    let v = retry-is (a .args .plan) (a .args .x) (a .args .j) (sym (c .before .before .before .before .decide-retry .ensures) ∙ c .before .before .answer .given .1) in
+    let v =
+    retry-is
+    (a .args .plan)
+    (a .args .x)
+    (a .args .j)
+    (sym (c .before .before .before .before .decide-retry .ensures) ∙ c .before .before .answer .given .1) in
     rw (c .refuse3 .ensures)
-    (judges-no _ _ (acts-no (a .args .plan) used (a .args .x) s (Retry (a .args .p) (a .args .j)) _ (a .pre .0) (there (c .before .before .before .before .before .before) used s)
+    (judges-no
+    _
+    _
+    (acts-no (a .args .plan) used (a .args .x) s (Retry (a .args .p) (a .args .j)) _ (a .pre .0) (there (c .before .before .before .before .before .before) used s)
     (retry-acts (a .args .plan) used (a .args .x) s h (a .args .p) (a .args .j) ∙ v)))
 
 returns-4 : tie.Need-returns-4
 returns-4 c used s =
     let a = c .before .before .before .before .before .before .before .before .before .before .before in
     let h = sym (a .pre .1) ∙ c .before .before .before .before .before .before .before .if2 .taken in
-    let v = retry-is (a .args .plan) (a .args .x) (a .args .j) (sym (c .before .before .before .before .before .before .decide-retry .ensures) ∙ c .before .before .before .before .enum-told .given .1) in
+    let v =
+    retry-is
+    (a .args .plan)
+    (a .args .x)
+    (a .args .j)
+    (sym (c .before .before .before .before .before .before .decide-retry .ensures) ∙ c .before .before .before .before .enum-told .given .1) in
     rw (c .go .ensures)
     (judges-go (goes-kept (a .pre .0) (there (c .before .before .before .before .before .before .before .before) used s) (retries-sent (a .args .plan) (a .args .x) (a .args .j) _ (c .before .multicast-record .ensures)) refl
-    (retry-acts (a .args .plan) used (a .args .x) s h (a .args .p) (a .args .j) ∙ v) (retry-keeps (a .args .plan) used (a .args .x) s h (a .pre .2) (a .args .p) (a .args .j))))
+    (retry-acts (a .args .plan) used (a .args .x) s h (a .args .p) (a .args .j) ∙ v)
+    (retry-keeps (a .args .plan) used (a .args .x) s h (a .pre .2) (a .args .p) (a .args .j))))
 
 pub judge-retry-spec : {M : Type 1} → statement M
 judge-retry-spec =
     tie.close
     (tie.spec
-    boxes-of-requires
-    cast-if1
-    cast-if1-2
-    refuse-requires
+    (λ c κs. search needs)
+    (λ c. search needs)
+    (λ c. search needs)
+    (λ c κs. search needs)
     returns
-    refuse-requires-2
+    (λ c κs. search needs)
     returns-2
     cast-decide-retry
-    decide-retry-requires
-    enum-known-answer
-    refuse-requires-3
-    enum-told
+    (λ c κs. search needs)
+    (λ c. search needs)
+    (λ c κs. search needs)
+    (λ c. search needs)
     cast-multicast-record
-    multicast-record-requires
-    go-requires
+    (λ c κs. search needs)
+    (λ c κs. search needs)
     returns-3
     returns-4)

@@ -9,12 +9,6 @@ use borrow.Author.Needs.{needs}
 use Rattle.rehearsal.proofs.nights.box_at.Statement.{statement}
 use Rattle.rehearsal.proofs.nights.box_at.Tie as tie
 
-mul-result : tie.Need-mul-result
-mul-result c = search needs
-
-array-copy-out-result : tie.Need-array-copy-out-result
-array-copy-out-result c = search needs
-
 returns : tie.Need-returns
 returns c =
     let a = c .before .before .args in
@@ -23,4 +17,4 @@ returns c =
     box-in (a .night) (a .at) _ l
 
 pub box-at-spec : {M : Type 1} → statement M
-box-at-spec = tie.close (tie.spec mul-result array-copy-out-result returns)
+box-at-spec = tie.close (tie.spec (λ c. search needs) (λ c. search needs) returns)

@@ -3,16 +3,11 @@ use borrow.Author.Needs.{needs}
 use Rattle.rehearsal.proofs.settling.send_only.Statement.{statement}
 use Rattle.rehearsal.proofs.settling.send_only.Tie as tie
 
-send-requires : tie.Need-send-requires
-send-requires c κs = search needs
-
-same-length : tie.Need-same-length
-same-length c = search needs
-
 returns : tie.Need-returns
-returns c = λ l S.
-    let q = c .before .before .send in let a = c .before .before .before .before .before .args in
-    (rw (q .ensures .0, q .ensures .1, S .bytes, S .count), rw (S .bytes) (q .ensures .2))
+returns c =
+    let a = c .before .before .before .before .before .args in
+    λ l S.
+    let q = c .before .before .send in (rw (q .ensures .0, q .ensures .1, S .bytes, S .count), rw (S .bytes) (q .ensures .2))
 
 pub send-only-spec : {M : Type 1} → statement M
-send-only-spec = tie.close (tie.spec send-requires same-length returns)
+send-only-spec = tie.close (tie.spec (λ c κs. search needs) (λ c. search needs) returns)

@@ -27,25 +27,14 @@ returns c =
       post-is = none-behind (a .post .now) (a .tray .now) (a .used) (a .more) z;
     }
 
-room-of-requires : tie.Need-room-of-requires
-room-of-requires c κs = search needs
-
-more-fits-requires : tie.Need-more-fits-requires
-more-fits-requires c κs = search needs
-
-sub-put-behind : tie.Need-sub-put-behind
-sub-put-behind c = search needs
-
-part-put-behind-start : tie.Need-part-put-behind-start
-part-put-behind-start c = search needs
-
-part-put-behind-end : tie.Need-part-put-behind-end
-part-put-behind-end c = search needs
-
 put-behind-requires : tie.Need-put-behind-requires
 put-behind-requires c κs =
-    let a = c .before .before .before .before .before .before .before .before .before in let m = c .before .before .before .before .room-of in
-    let k : a .args .used + a .args .more ≤ m .result = leb-true (a .args .used + a .args .more) (m .result) (sym (c .before .before .before .more-fits .ensures) ∙ c .before .before .if2 .taken) in
+    let if2-taken = c .before .before .if2 .taken in
+    let more-fits-says = c .before .before .before .more-fits .ensures in
+    let at-4 = c .before .before .before .before in
+    let at-9 = at-4 .before .before .before .before .before in
+    let a = at-9 in let m = at-4 .room-of in
+    let k : a .args .used + a .args .more ≤ m .result = leb-true (a .args .used + a .args .more) (m .result) (sym (more-fits-says) ∙ if2-taken) in
     let r : m .result ≤ length (a .args .post .now) = m .ensures .1 in
     let n : length (take (a .args .more) (a .args .tray .now)) ≡ a .args .more = length-take-le (a .args .more) (a .args .tray .now) (a .pre) in
     let g : a .args .used + length (take (a .args .more - 0) (a .args .tray .now)) ≤ length (a .args .post .now) = rw (sub-zero, n) (omega (arith, k, r)) in
@@ -53,49 +42,58 @@ put-behind-requires c κs =
 
 add-t14 : tie.Need-add-t14
 add-t14 c =
-    let a = c .before .before .before .before .before .before .before .before .before .before .before .before .args in let m = c .before .before .before .before .before .before .before .room-of in
-    let k : a .used + a .more ≤ m .result = leb-true (a .used + a .more) (m .result) (sym (c .before .before .before .before .before .before .more-fits .ensures) ∙ c .before .before .before .before .before .if2 .taken) in
+    let if2-taken = c .before .before .before .before .before .if2 .taken in
+    let at-6 = c .before .before .before .before .before .before in
+    let more-fits-says = at-6 .more-fits .ensures in
+    let at-7 = at-6 .before in
+    let a = at-7 .before .before .before .before .before .args in
+    let m = at-7 .room-of in
+    let k : a .used + a .more ≤ m .result = leb-true (a .used + a .more) (m .result) (sym (more-fits-says) ∙ if2-taken) in
     let r : m .result ≡ roomOf (a .post .now) = m .ensures .0 in
     let f : roomOf (a .post .now) ≤ mostPost = room-few (a .post .now) in
     omega (arith, k, r, f)
 
-same-length : tie.Need-same-length
-same-length c = search needs
-
 returns-2 : tie.Need-returns-2
 unfolding pick
 returns-2 c =
-    let a = c .before .before .before .before .before .before .before .before .before .before .before .before .args in
-    let m : leb (a .used + a .more) (roomOf (a .post .now)) ≡ true = rw (← c .before .before .before .before .before .before .before .room-of .ensures .0) (sym (c .before .before .before .before .before .before .more-fits .ensures) ∙ c .before .before .before .before .before .if2 .taken) in
+    let put-behind-says = c .before .before .put-behind .ensures in
+    let if2-taken = c .before .before .before .before .before .if2 .taken in
+    let at-6 = c .before .before .before .before .before .before in
+    let more-fits-says = at-6 .more-fits .ensures in
+    let room-of-says = at-6 .before .room-of .ensures in
+    let a = at-6 .before .before .before .before .before .before .args in
+    let m : leb (a .used + a .more) (roomOf (a .post .now)) ≡ true = rw (← room-of-says .0) (sym (more-fits-says) ∙ if2-taken) in
     record {
       fits-is = sym (or-right (eqb (a .more) 0) (leb (a .used + a .more) (roomOf (a .post .now))) m);
       used-is = refl;
-      post-is = c .before .before .put-behind .ensures ∙ rw sub-zero;
+      post-is = put-behind-says ∙ rw sub-zero;
     }
-
-same-length-2 : tie.Need-same-length-2
-same-length-2 c = search needs
 
 returns-3 : tie.Need-returns-3
 unfolding pick
 returns-3 c =
-    let a = c .before .before .before .before .before .before .before .args in
-    let m : leb (a .used + a .more) (roomOf (a .post .now)) ≡ false = rw (← c .before .before .room-of .ensures .0) (sym (c .before .more-fits .ensures) ∙ c .if2 .left) in
-    record { fits-is = rw (ne-eqb (a .more) 0 (c .before .before .before .before .if1 .left), m); used-is = refl; post-is = refl }
+    let if2-left = c .if2 .left in
+    let more-fits-says = c .before .more-fits .ensures in
+    let room-of-says = c .before .before .room-of .ensures in
+    let at-4 = c .before .before .before .before in
+    let if1-left = at-4 .if1 .left in
+    let a = at-4 .before .before .before .args in
+    let m : leb (a .used + a .more) (roomOf (a .post .now)) ≡ false = rw (← room-of-says .0) (sym (more-fits-says) ∙ if2-left) in
+    record { fits-is = rw (ne-eqb (a .more) 0 (if1-left), m); used-is = refl; post-is = refl }
 
 pub settle-spec : {M : Type 1} → statement M
 settle-spec =
     tie.close
     (tie.spec
     returns
-    room-of-requires
-    more-fits-requires
-    sub-put-behind
-    part-put-behind-start
-    part-put-behind-end
+    (λ c κs. search needs)
+    (λ c κs. search needs)
+    (λ c. search needs)
+    (λ c. search needs)
+    (λ c. search needs)
     put-behind-requires
     add-t14
-    same-length
+    (λ c. search needs)
     returns-2
-    same-length-2
+    (λ c. search needs)
     returns-3)

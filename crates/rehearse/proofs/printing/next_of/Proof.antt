@@ -10,15 +10,6 @@ use borrow.Author.Needs.{needs}
 use Rattle.rehearse.proofs.printing.next_of.Statement.{statement}
 use Rattle.rehearse.proofs.printing.next_of.Tie as tie
 
-is-failure-requires : tie.Need-is-failure-requires
-is-failure-requires c κs = search needs
-
-is-nothing-requires : tie.Need-is-nothing-requires
-is-nothing-requires c κs = search needs
-
-in-order-requires : tie.Need-in-order-requires
-in-order-requires c κs = search needs
-
 returns : tie.Need-returns
 returns c =
     let a = c .before .before .before .args in
@@ -29,4 +20,4 @@ returns c =
 
 pub next-of-spec : {M : Type 1} → statement M
 next-of-spec =
-    tie.close (tie.spec is-failure-requires is-nothing-requires in-order-requires returns)
+    tie.close (tie.spec (λ c κs. search needs) (λ c κs. search needs) (λ c κs. search needs) returns)

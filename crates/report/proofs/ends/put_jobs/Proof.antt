@@ -13,7 +13,8 @@ use Rattle.report.proofs.ends.put_jobs.Statement.{statement}
 use Rattle.report.proofs.ends.put_jobs.Tie as tie
 
 abbrev Inv-loop : tie.InvT-loop
-Inv-loop count t₀ list used₀ i₀ t used i = (i ≤ count) × (used ≤ 4 * i) × (length t ≡ length t₀) × (used ≡ length (jobsText list i)) × (t ≡ onto (jobsText list i) t₀)
+Inv-loop count t₀ list used₀ i₀ t used i =
+    (i ≤ count) × (used ≤ 4 * i) × (length t ≡ length t₀) × (used ≡ length (jobsText list i)) × (t ≡ onto (jobsText list i) t₀)
 
 abbrev μ-loop : tie.MeasureT-loop
 μ-loop count t₀ list used₀ i₀ t used i = count - i
@@ -49,11 +50,24 @@ loop-less c = search needs
 loop-again : tie.Need-loop-again Inv-loop μ-loop
 unfolding jobsText
 loop-again c =
-    let a = c .before .before .before .before .before .before .before .args in
-    let l = c .before .before .before .before .before .loop in
+    let at-5 = c .before .before .before .before .before in
+    let a = at-5 .before .before .args in
+    let l = at-5 .loop in
     let q = c .before .before .put-item in
     let s = for-step (λ (i : ℕ). item (getD (a .t1) i 0)) (l .i) in
-    let k = then (jobsText (a .t1) (l .i)) (item (getD (a .t1) (l .i) 0)) (a .t .now) (l .t) (q .last .1 .0) (l .used) (q .result) (l .inv .3) (l .inv .4) (q .ensures .1) (q .ensures .2) in
+    let k =
+    then
+    (jobsText (a .t1) (l .i))
+    (item (getD (a .t1) (l .i) 0))
+    (a .t .now)
+    (l .t)
+    (q .last .1 .0)
+    (l .used)
+    (q .result)
+    (l .inv .3)
+    (l .inv .4)
+    (q .ensures .1)
+    (q .ensures .2) in
     (omega arith, omega (arith, q .ensures .0), c .before .t .given .1 ∙ l .inv .2, k .0 ∙ ap length s, k .1 ∙ ap (λ (bs : List ℕ). onto bs (a .t .now)) s)
 
 same-length : tie.Need-same-length Inv-loop μ-loop

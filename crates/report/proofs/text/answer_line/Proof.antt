@@ -12,80 +12,68 @@ use borrow.Author.Needs.{needs}
 use Rattle.report.proofs.text.answer_line.Statement.{statement}
 use Rattle.report.proofs.text.answer_line.Tie as tie
 
-slice-aggregate-put-either : tie.Need-slice-aggregate-put-either
-slice-aggregate-put-either c = search needs
-
-slice-aggregate-put-either-2 : tie.Need-slice-aggregate-put-either-2
-slice-aggregate-put-either-2 c = search needs
-
-put-either-requires : tie.Need-put-either-requires
-put-either-requires c κs = search needs
-
-sub-put-decimal : tie.Need-sub-put-decimal
-sub-put-decimal c = search needs
-
-part-put-decimal-start : tie.Need-part-put-decimal-start
-part-put-decimal-start c = search needs
-
-part-put-decimal-end : tie.Need-part-put-decimal-end
-part-put-decimal-end c = search needs
-
 put-decimal-requires : tie.Need-put-decimal-requires
-put-decimal-requires c κs = let m = decimal-most (c .before .before .before .before .before .before .before .before .args .n) in search needs
-
-add-b : tie.Need-add-b
-add-b c = search needs
-
-slice-aggregate-put : tie.Need-slice-aggregate-put
-slice-aggregate-put c = search needs
-
-sub-put : tie.Need-sub-put
-sub-put c = search needs
-
-part-put-start : tie.Need-part-put-start
-part-put-start c = search needs
-
-part-put-end : tie.Need-part-put-end
-part-put-end c = search needs
-
-put-requires : tie.Need-put-requires
-put-requires c κs = search needs
-
-add-result : tie.Need-add-result
-add-result c = search needs
-
-same-length : tie.Need-same-length
-same-length c = search needs
+put-decimal-requires c κs =
+    let at-6 = c .before .before .before .before .before .before in
+    let given = at-6 .before .before .args in
+    let m = decimal-most (given .n) in search needs
 
 returns : tie.Need-returns
 unfolding answerText
 returns c =
-    let a = c .before .before .before .before .before .before .before .before .before .before .before .before .before .before .before .before .args in
-    let h = c .before .before .before .before .before .before .before .before .before .before .before .put-either in
-    let d = c .before .before .before .before .before .before .before .put-decimal in
+    let at-6 = c .before .before .before .before .before .before in
+    let at-7 = at-6 .before in
+    let at-11 = at-7 .before .before .before .before in
+    let a = at-11 .before .before .before .before .before .args in
+    let h = at-11 .put-either in
+    let d = at-7 .put-decimal in
     let p = c .before .before .put in
     let head : List ℕ = pick (a .refused) (110 ∷ 111 ∷ space ∷ []) (111 ∷ 107 ∷ space ∷ []) in
-    let s = then head (decimal (a .n)) (a .t .now) (h .last .1 .1 .1 .0) (d .last .1 .0) (h .result) (d .result) (h .ensures .1) (h .ensures .2) (d .ensures .1) (d .ensures .2) in
-    let u = then (head ++ decimal (a .n)) (lineFeed ∷ []) (a .t .now) _ (p .last .1 .0) (h .result + d .result) (p .result) (s .0) (s .1) (p .ensures .0) (p .ensures .1) in
+    let s =
+    then
+    head
+    (decimal (a .n))
+    (a .t .now)
+    (h .last .1 .1 .1 .0)
+    (d .last .1 .0)
+    (h .result)
+    (d .result)
+    (h .ensures .1)
+    (h .ensures .2)
+    (d .ensures .1)
+    (d .ensures .2) in
+    let u =
+    then
+    (head ++ decimal (a .n))
+    (lineFeed ∷ [])
+    (a .t .now)
+    _
+    (p .last .1 .0)
+    (h .result + d .result)
+    (p .result)
+    (s .0)
+    (s .1)
+    (p .ensures .0)
+    (p .ensures .1) in
     (omega (arith, h .ensures .0, d .ensures .0, p .ensures .0), u .0, u .1)
 
 pub answer-line-spec : {M : Type 1} → statement M
 answer-line-spec =
     tie.close
     (tie.spec
-    slice-aggregate-put-either
-    slice-aggregate-put-either-2
-    put-either-requires
-    sub-put-decimal
-    part-put-decimal-start
-    part-put-decimal-end
+    (λ c. search needs)
+    (λ c. search needs)
+    (λ c κs. search needs)
+    (λ c. search needs)
+    (λ c. search needs)
+    (λ c. search needs)
     put-decimal-requires
-    add-b
-    slice-aggregate-put
-    sub-put
-    part-put-start
-    part-put-end
-    put-requires
-    add-result
-    same-length
+    (λ c. search needs)
+    (λ c. search needs)
+    (λ c. search needs)
+    (λ c. search needs)
+    (λ c. search needs)
+    (λ c κs. search needs)
+    (λ c. search needs)
+    (λ c. search needs)
     returns)

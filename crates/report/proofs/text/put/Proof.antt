@@ -5,14 +5,10 @@ use borrow.Author.Needs.{needs}
 use Rattle.report.proofs.text.put.Statement.{statement}
 use Rattle.report.proofs.text.put.Tie as tie
 
-copy-requires : tie.Need-copy-requires
-copy-requires c κs = search needs
-
-same-length : tie.Need-same-length
-same-length c = search needs
-
 returns : tie.Need-returns
-returns c = let a = c .before .before .before .before .before .before .args in let q = c .before .before .copy in (q .ensures .0, q .ensures .1 ∙ onto-copy (a .bytes .now) (a .t .now))
+returns c =
+    let a = c .before .before .before .before .before .before .args in
+    let q = c .before .before .copy in (q .ensures .0, q .ensures .1 ∙ onto-copy (a .bytes .now) (a .t .now))
 
 pub put-spec : {M : Type 1} → statement M
-put-spec = tie.close (tie.spec copy-requires same-length returns)
+put-spec = tie.close (tie.spec (λ c κs. search needs) (λ c. search needs) returns)

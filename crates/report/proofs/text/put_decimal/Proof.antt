@@ -12,15 +12,6 @@ use borrow.Author.Needs.{needs}
 use Rattle.report.proofs.text.put_decimal.Statement.{statement}
 use Rattle.report.proofs.text.put_decimal.Tie as tie
 
-decimal-requires : tie.Need-decimal-requires
-decimal-requires c κs = search needs
-
-array-share-prefix-digits : tie.Need-array-share-prefix-digits
-array-share-prefix-digits c = search needs
-
-slice-aggregate-put : tie.Need-slice-aggregate-put
-slice-aggregate-put c = search needs
-
 put-requires : tie.Need-put-requires
 put-requires c κs =
     let a = c .before .before .before .before .before .args in
@@ -28,13 +19,11 @@ put-requires c κs =
     let e : take (d .result) (d .last .1 .0) ≡ decimal (a .n) = d .ensures .1 .1 ∙ fewest-decimal (a .n) (d .result) (omega arith) (d .ensures .1 .0) in
     omega (arith, ap length e)
 
-same-length : tie.Need-same-length
-same-length c = search needs
-
 returns : tie.Need-returns
 returns c =
-    let a = c .before .before .before .before .before .before .before .before .args in
-    let d = c .before .before .before .before .before .decimal in
+    let at-5 = c .before .before .before .before .before in
+    let a = at-5 .before .before .before .args in
+    let d = at-5 .decimal in
     let p = c .before .before .put in
     let e : take (d .result) (d .last .1 .0) ≡ decimal (a .n) = d .ensures .1 .1 ∙ fewest-decimal (a .n) (d .result) (omega arith) (d .ensures .1 .0) in
     (omega (arith, p .ensures .0, ap length e, decimal-most (a .n)), p .ensures .0 ∙ ap length e, p .ensures .1 ∙ ap (λ (l : List ℕ). onto l (a .t .now)) e)
@@ -43,9 +32,9 @@ pub put-decimal-spec : {M : Type 1} → statement M
 put-decimal-spec =
     tie.close
     (tie.spec
-    decimal-requires
-    array-share-prefix-digits
-    slice-aggregate-put
+    (λ c κs. search needs)
+    (λ c. search needs)
+    (λ c. search needs)
     put-requires
-    same-length
+    (λ c. search needs)
     returns)

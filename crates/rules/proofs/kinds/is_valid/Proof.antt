@@ -4,18 +4,9 @@ use borrow.Author.Needs.{needs}
 use Rattle.rules.proofs.kinds.is_valid.Statement.{statement}
 use Rattle.rules.proofs.kinds.is_valid.Tie as tie
 
-is-known-requires : tie.Need-is-known-requires
-is-known-requires c κs = search needs
-
-is-spare-requires : tie.Need-is-spare-requires
-is-spare-requires c κs = search needs
-
-obeys-requires : tie.Need-obeys-requires
-obeys-requires c κs = search needs
-
 returns : tie.Need-returns
 unfolding valid
 returns c = rw (c .obeys .ensures, c .before .is-spare .ensures, c .before .before .is-known .ensures)
 
 pub is-valid-spec : {M : Type 1} → statement M
-is-valid-spec = tie.close (tie.spec is-known-requires is-spare-requires obeys-requires returns)
+is-valid-spec = tie.close (tie.spec (λ c κs. search needs) (λ c κs. search needs) (λ c κs. search needs) returns)

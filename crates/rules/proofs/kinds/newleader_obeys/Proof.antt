@@ -4,15 +4,9 @@ use borrow.Author.Needs.{needs}
 use Rattle.rules.proofs.kinds.newleader_obeys.Statement.{statement}
 use Rattle.rules.proofs.kinds.newleader_obeys.Tie as tie
 
-are-neighbours-requires : tie.Need-are-neighbours-requires
-are-neighbours-requires c κs = search needs
-
-ballot-of-requires : tie.Need-ballot-of-requires
-ballot-of-requires c κs = search needs
-
 returns : tie.Need-returns
 unfolding rules
 returns c = rw (c .ballot-of .ensures, c .before .are-neighbours .ensures)
 
 pub newleader-obeys-spec : {M : Type 1} → statement M
-newleader-obeys-spec = tie.close (tie.spec are-neighbours-requires ballot-of-requires returns)
+newleader-obeys-spec = tie.close (tie.spec (λ c κs. search needs) (λ c κs. search needs) returns)

@@ -4,15 +4,9 @@ use borrow.Author.Needs.{needs}
 use Rattle.rules.proofs.kinds.newstate_ack_obeys.Statement.{statement}
 use Rattle.rules.proofs.kinds.newstate_ack_obeys.Tie as tie
 
-are-others-requires : tie.Need-are-others-requires
-are-others-requires c κs = search needs
-
-ballot-of-requires : tie.Need-ballot-of-requires
-ballot-of-requires c κs = search needs
-
 returns : tie.Need-returns
 unfolding rules
 returns c = rw (c .ballot-of .ensures, c .before .are-others .ensures)
 
 pub newstate-ack-obeys-spec : {M : Type 1} → statement M
-newstate-ack-obeys-spec = tie.close (tie.spec are-others-requires ballot-of-requires returns)
+newstate-ack-obeys-spec = tie.close (tie.spec (λ c κs. search needs) (λ c κs. search needs) returns)

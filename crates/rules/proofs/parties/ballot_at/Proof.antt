@@ -7,23 +7,11 @@ use borrow.Author.Needs.{needs}
 use Rattle.rules.proofs.parties.ballot_at.Statement.{statement}
 use Rattle.rules.proofs.parties.ballot_at.Tie as tie
 
-no-ballot-requires : tie.Need-no-ballot-requires
-no-ballot-requires c κs = search needs
-
 returns : tie.Need-returns
 returns c =
     let a = c .before .before .before .args in
     let n : length (a .t1) ≡ 4 = search needs in
     c .no-ballot .ensures ∙ sym (List·getD-eq-default (a .t1) noBallot {n = a .d .0} (omega (arith, n, c .before .if1 .taken)))
-
-cast-at : tie.Need-cast-at
-cast-at c = search needs
-
-mul-result : tie.Need-mul-result
-mul-result c = search needs
-
-array-copy-out-result : tie.Need-array-copy-out-result
-array-copy-out-result c = search needs
 
 returns-2 : tie.Need-returns-2
 returns-2 c = refl
@@ -31,4 +19,4 @@ returns-2 c = refl
 pub ballot-at-spec : {M : Type 1} → statement M
 ballot-at-spec =
     tie.close
-    (tie.spec no-ballot-requires returns cast-at mul-result array-copy-out-result returns-2)
+    (tie.spec (λ c κs. search needs) returns (λ c. search needs) (λ c. search needs) (λ c. search needs) returns-2)

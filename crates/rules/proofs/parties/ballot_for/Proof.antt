@@ -6,33 +6,31 @@ use borrow.Author.Needs.{needs}
 use Rattle.rules.proofs.parties.ballot_for.Statement.{statement}
 use Rattle.rules.proofs.parties.ballot_for.Tie as tie
 
-ballot-at-requires : tie.Need-ballot-at-requires
-ballot-at-requires c κs = search needs
-
-named-requires : tie.Need-named-requires
-named-requires c κs = search needs
-
-ballot-in-requires : tie.Need-ballot-in-requires
-ballot-in-requires c κs = search needs
-
 returns : tie.Need-returns
 unfolding ballotFor
-returns c = c .ballot-in .ensures ∙ rw (c .before .before .before .ballot-at .ensures) (sym (pick-true _ _ (sym (c .before .before .named .ensures) ∙ c .before .if1 .taken)))
-
-is-no-ballot-requires : tie.Need-is-no-ballot-requires
-is-no-ballot-requires c κs = search needs
+returns c =
+    let ballot-in-says = c .ballot-in .ensures in
+    let if1-taken = c .before .if1 .taken in
+    let named-says = c .before .before .named .ensures in
+    let ballot-at-says = c .before .before .before .ballot-at .ensures in
+    ballot-in-says ∙ rw (ballot-at-says) (sym (pick-true _ _ (sym (named-says) ∙ if1-taken)))
 
 returns-2 : tie.Need-returns-2
 unfolding ballotFor
-returns-2 c = c .is-no-ballot .ensures ∙ rw (c .before .before .before .ballot-at .ensures) (sym (pick-false _ _ (sym (c .before .before .named .ensures) ∙ c .before .if1 .left)))
+returns-2 c =
+    let is-no-ballot-says = c .is-no-ballot .ensures in
+    let if1-left = c .before .if1 .left in
+    let named-says = c .before .before .named .ensures in
+    let ballot-at-says = c .before .before .before .ballot-at .ensures in
+    is-no-ballot-says ∙ rw (ballot-at-says) (sym (pick-false _ _ (sym (named-says) ∙ if1-left)))
 
 pub ballot-for-spec : {M : Type 1} → statement M
 ballot-for-spec =
     tie.close
     (tie.spec
-    ballot-at-requires
-    named-requires
-    ballot-in-requires
+    (λ c κs. search needs)
+    (λ c κs. search needs)
+    (λ c κs. search needs)
     returns
-    is-no-ballot-requires
+    (λ c κs. search needs)
     returns-2)

@@ -35,7 +35,9 @@ loop-again c =
     (omega arith, rw (l .inv .1, c .ballot-for .ensures) (all-step (ballotFor (a .plan) (a .job) (a .ballots)) (l .d)))
 
 returns : tie.Need-returns Inv-loop μ-loop
-returns c = let a = c .before .before .args in let l = c .before .loop in let e : l .d ≡ a .n = omega arith in l .inv .1 ∙ ap (ballotsFor (a .plan) (a .job) (a .ballots)) e
+returns c =
+    let a = c .before .before .args in
+    let l = c .before .loop in let e : l .d ≡ a .n = omega arith in l .inv .1 ∙ ap (ballotsFor (a .plan) (a .job) (a .ballots)) e
 
 pub ballots-for-spec : {M : Type 1} → statement M
 ballots-for-spec =

@@ -4,12 +4,9 @@ use borrow.Author.Needs.{needs}
 use Rattle.rules.proofs.rows.clock_of.Statement.{statement}
 use Rattle.rules.proofs.rows.clock_of.Tie as tie
 
-time-fits-requires : tie.Need-time-fits-requires
-time-fits-requires c κs = search needs
-
 returns : tie.Need-returns
 unfolding clockOf
 returns c = rw (c .before .before .time-fits .ensures)
 
 pub clock-of-spec : {M : Type 1} → statement M
-clock-of-spec = tie.close (tie.spec time-fits-requires returns)
+clock-of-spec = tie.close (tie.spec (λ c κs. search needs) returns)

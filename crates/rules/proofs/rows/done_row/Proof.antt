@@ -4,12 +4,9 @@ use borrow.Author.Needs.{needs}
 use Rattle.rules.proofs.rows.done_row.Statement.{statement}
 use Rattle.rules.proofs.rows.done_row.Tie as tie
 
-both-stamps-requires : tie.Need-both-stamps-requires
-both-stamps-requires c κs = search needs
-
 returns : tie.Need-returns
 unfolding doneRow
 returns c = rw (c .both-stamps .ensures)
 
 pub done-row-spec : {M : Type 1} → statement M
-done-row-spec = tie.close (tie.spec both-stamps-requires returns)
+done-row-spec = tie.close (tie.spec (λ c κs. search needs) returns)

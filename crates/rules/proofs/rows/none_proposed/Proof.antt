@@ -47,7 +47,9 @@ loop-less c = search needs
 loop-again : tie.Need-loop-again Inv-loop μ-loop
 unfolding noneProposed
 loop-again c =
-    let a = c .before .before .before .before .before .args in let l = c .before .before .before .before .loop in
+    let at-4 = c .before .before .before .before in
+    let a = at-4 .before .args in
+    let l = at-4 .loop in
     (omega arith, rw (l .inv .1) (all-step (λ (j : ℕ). not (eqb (getD (a .t1) j noRow .phase) 1)) (l .j)), l .inv .2)
 
 returns-2 : tie.Need-returns-2 Inv-loop μ-loop

@@ -4,15 +4,9 @@ use borrow.Author.Needs.{needs}
 use Rattle.rules.proofs.rows.open_row.Statement.{statement}
 use Rattle.rules.proofs.rows.open_row.Tie as tie
 
-stamp-of-requires : tie.Need-stamp-of-requires
-stamp-of-requires c κs = search needs
-
-is-no-stamp-requires : tie.Need-is-no-stamp-requires
-is-no-stamp-requires c κs = search needs
-
 returns : tie.Need-returns
 unfolding openRow
 returns c = rw (c .is-no-stamp .ensures, c .before .stamp-of .ensures)
 
 pub open-row-spec : {M : Type 1} → statement M
-open-row-spec = tie.close (tie.spec stamp-of-requires is-no-stamp-requires returns)
+open-row-spec = tie.close (tie.spec (λ c κs. search needs) (λ c κs. search needs) returns)

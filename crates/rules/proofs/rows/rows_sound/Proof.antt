@@ -48,8 +48,11 @@ loop-less c = search needs
 loop-again : tie.Need-loop-again Inv-loop μ-loop
 unfolding rowsSound
 loop-again c =
-    let a = c .before .before .before .before .before .args in let l = c .before .before .before .before .loop in
-    (omega arith, rw (l .inv .1, c .row-sound .ensures) (all-step (λ (j : ℕ). rowSound (a .plan) (a .d) j (getD (a .t3) j noRow)) (l .j)), l .inv .2)
+    let row-sound-says = c .row-sound .ensures in
+    let at-4 = c .before .before .before .before in
+    let a = at-4 .before .args in
+    let l = at-4 .loop in
+    (omega arith, rw (l .inv .1, row-sound-says) (all-step (λ (j : ℕ). rowSound (a .plan) (a .d) j (getD (a .t3) j noRow)) (l .j)), l .inv .2)
 
 returns-2 : tie.Need-returns-2 Inv-loop μ-loop
 returns-2 c =

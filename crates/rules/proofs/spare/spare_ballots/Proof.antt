@@ -43,12 +43,16 @@ loop-less c = search needs
 
 loop-again : tie.Need-loop-again Inv-loop μ-loop
 loop-again c =
-    let a = c .before .before .before .before .args in let l = c .before .before .before .loop in
-    (omega arith, rw (l .inv .1, c .is-no-ballot .ensures) (all-step (λ (k : ℕ). ltb k (a .n) || isNoBallot (getD (a .t1) k noBallot)) (l .i)))
+    let is-no-ballot-says = c .is-no-ballot .ensures in
+    let a = c .before .before .before .before .args in
+    let l = c .before .before .before .loop in
+    (omega arith, rw (l .inv .1, is-no-ballot-says) (all-step (λ (k : ℕ). ltb k (a .n) || isNoBallot (getD (a .t1) k noBallot)) (l .i)))
 
 returns : tie.Need-returns Inv-loop μ-loop
 unfolding spareBallots
-returns c = let a = c .before .before .args in let l = c .before .loop in let e : l .i ≡ 4 = omega arith in l .inv .1 ∙ ap (allBelow (λ (k : ℕ). ltb k (a .n) || isNoBallot (getD (a .t1) k noBallot))) e
+returns c =
+    let a = c .before .before .args in
+    let l = c .before .loop in let e : l .i ≡ 4 = omega arith in l .inv .1 ∙ ap (allBelow (λ (k : ℕ). ltb k (a .n) || isNoBallot (getD (a .t1) k noBallot))) e
 
 pub spare-ballots-spec : {M : Type 1} → statement M
 spare-ballots-spec =

@@ -43,12 +43,16 @@ loop-less c = search needs
 
 loop-again : tie.Need-loop-again Inv-loop μ-loop
 loop-again c =
-    let a = c .before .before .before .before .args in let l = c .before .before .before .loop in
-    (omega arith, rw (l .inv .1, c .start-row .ensures) (all-step (λ (k : ℕ). ltb k (a .n) || startRow (getD (a .t1) k noRow)) (l .i)))
+    let start-row-says = c .start-row .ensures in
+    let a = c .before .before .before .before .args in
+    let l = c .before .before .before .loop in
+    (omega arith, rw (l .inv .1, start-row-says) (all-step (λ (k : ℕ). ltb k (a .n) || startRow (getD (a .t1) k noRow)) (l .i)))
 
 returns : tie.Need-returns Inv-loop μ-loop
 unfolding spareRows isNoRow
-returns c = let a = c .before .before .args in let l = c .before .loop in let e : l .i ≡ 64 = omega arith in l .inv .1 ∙ ap (allBelow (λ (k : ℕ). ltb k (a .n) || startRow (getD (a .t1) k noRow))) e
+returns c =
+    let a = c .before .before .args in
+    let l = c .before .loop in let e : l .i ≡ 64 = omega arith in l .inv .1 ∙ ap (allBelow (λ (k : ℕ). ltb k (a .n) || startRow (getD (a .t1) k noRow))) e
 
 pub spare-rows-spec : {M : Type 1} → statement M
 spare-rows-spec =

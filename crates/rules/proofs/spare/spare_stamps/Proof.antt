@@ -43,12 +43,16 @@ loop-less c = search needs
 
 loop-again : tie.Need-loop-again Inv-loop μ-loop
 loop-again c =
-    let a = c .before .before .before .before .args in let l = c .before .before .before .loop in
-    (omega arith, rw (l .inv .1, c .is-no-stamp .ensures) (all-step (λ (k : ℕ). ltb k (a .n) || isNoStamp (getD (a .t1) k noStamp)) (l .i)))
+    let is-no-stamp-says = c .is-no-stamp .ensures in
+    let a = c .before .before .before .before .args in
+    let l = c .before .before .before .loop in
+    (omega arith, rw (l .inv .1, is-no-stamp-says) (all-step (λ (k : ℕ). ltb k (a .n) || isNoStamp (getD (a .t1) k noStamp)) (l .i)))
 
 returns : tie.Need-returns Inv-loop μ-loop
 unfolding spareStamps
-returns c = let a = c .before .before .args in let l = c .before .loop in let e : l .i ≡ 2 = omega arith in l .inv .1 ∙ ap (allBelow (λ (k : ℕ). ltb k (a .n) || isNoStamp (getD (a .t1) k noStamp))) e
+returns c =
+    let a = c .before .before .args in
+    let l = c .before .loop in let e : l .i ≡ 2 = omega arith in l .inv .1 ∙ ap (allBelow (λ (k : ℕ). ltb k (a .n) || isNoStamp (getD (a .t1) k noStamp))) e
 
 pub spare-stamps-spec : {M : Type 1} → statement M
 spare-stamps-spec =

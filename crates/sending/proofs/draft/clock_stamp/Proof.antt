@@ -4,12 +4,9 @@ use borrow.Author.Needs.{needs}
 use Rattle.sending.proofs.draft.clock_stamp.Statement.{statement}
 use Rattle.sending.proofs.draft.clock_stamp.Tie as tie
 
-home-of-requires : tie.Need-home-of-requires
-home-of-requires c κs = search needs
-
 returns : tie.Need-returns
 unfolding clockStamp
 returns c = rw (c .home-of .ensures)
 
 pub clock-stamp-spec : {M : Type 1} → statement M
-clock-stamp-spec = tie.close (tie.spec home-of-requires returns)
+clock-stamp-spec = tie.close (tie.spec (λ c κs. search needs) returns)

@@ -6,18 +6,9 @@ use borrow.Author.Needs.{needs}
 use Rattle.sending.proofs.draft.kept_for.Statement.{statement}
 use Rattle.sending.proofs.draft.kept_for.Tie as tie
 
-named-requires : tie.Need-named-requires
-named-requires c κs = search needs
-
-kept-ballot-requires : tie.Need-kept-ballot-requires
-kept-ballot-requires c κs = search needs
-
 returns : tie.Need-returns
 unfolding keptFor
 returns c = c .kept-ballot .ensures ∙ sym (pick-true _ _ (sym (c .before .before .named .ensures) ∙ c .before .if1 .taken))
-
-no-ballot-requires : tie.Need-no-ballot-requires
-no-ballot-requires c κs = search needs
 
 returns-2 : tie.Need-returns-2
 unfolding keptFor
@@ -25,4 +16,4 @@ returns-2 c = c .no-ballot .ensures ∙ sym (pick-false _ _ (sym (c .before .bef
 
 pub kept-for-spec : {M : Type 1} → statement M
 kept-for-spec =
-    tie.close (tie.spec named-requires kept-ballot-requires returns no-ballot-requires returns-2)
+    tie.close (tie.spec (λ c κs. search needs) (λ c κs. search needs) returns (λ c κs. search needs) returns-2)

@@ -4,12 +4,9 @@ use borrow.Author.Needs.{needs}
 use Rattle.sending.proofs.draft.newstate_ack_record.Statement.{statement}
 use Rattle.sending.proofs.draft.newstate_ack_record.Tie as tie
 
-ballot-record-requires : tie.Need-ballot-record-requires
-ballot-record-requires c κs = search needs
-
 returns : tie.Need-returns
 unfolding carried
 returns c = c .ballot-record .ensures
 
 pub newstate-ack-record-spec : {M : Type 1} → statement M
-newstate-ack-record-spec = tie.close (tie.spec ballot-record-requires returns)
+newstate-ack-record-spec = tie.close (tie.spec (λ c κs. search needs) returns)

@@ -5,19 +5,10 @@ use borrow.Author.Needs.{needs}
 use Rattle.sending.proofs.draft.vote_record.Statement.{statement}
 use Rattle.sending.proofs.draft.vote_record.Tie as tie
 
-clock-stamp-requires : tie.Need-clock-stamp-requires
-clock-stamp-requires c κs = search needs
-
-no-ballot-requires : tie.Need-no-ballot-requires
-no-ballot-requires c κs = search needs
-
-no-stamp-requires : tie.Need-no-stamp-requires
-no-stamp-requires c κs = search needs
-
 returns : tie.Need-returns
 unfolding voteFor carried
 returns c = rw (c .no-stamp .ensures, c .before .no-ballot .ensures, c .before .before .clock-stamp .ensures)
 
 pub vote-record-spec : {M : Type 1} → statement M
 vote-record-spec =
-    tie.close (tie.spec clock-stamp-requires no-ballot-requires no-stamp-requires returns)
+    tie.close (tie.spec (λ c κs. search needs) (λ c κs. search needs) (λ c κs. search needs) returns)

@@ -19,22 +19,18 @@ sending : (P : Plan) (own : BoxNo) (b : Ballot) (row : Row) (j : ℕ)
 unfolding deliversFrom fresh
 sending P own b row j = delivers-sent P own (fresh own) j (record { ballot = b; local = row .local; global = row .global })
 
-deliver-record-requires : tie.Need-deliver-record-requires
-deliver-record-requires c κs = search needs
-
 send-requires : tie.Need-send-requires
 send-requires c κs =
     let a = c .before .before .before .args in let w = sending (a .plan) (a .own) (a .b) (a .row) (a .job) in
     (c .before .before .before .pre .0, rw (c .before .deliver-record .ensures, ← w .bytes) (c .before .before .before .pre .1))
 
-same-length : tie.Need-same-length
-same-length c = search needs
-
 returns : tie.Need-returns
 returns c =
-    let a = c .before .before .before .before .before .before .args in let w = sending (a .plan) (a .own) (a .b) (a .row) (a .job) in
-    let q = c .before .before .send in let e = c .before .before .before .before .deliver-record .ensures in
+    let e = c .before .before .before .before .deliver-record .ensures in
+    let a = c .before .before .before .before .before .before .args in
+    let w = sending (a .plan) (a .own) (a .b) (a .row) (a .job) in
+    let q = c .before .before .send in
     (rw (w .bytes, ← e) (q .ensures .0), rw (w .count, ← e) (q .ensures .1), rw (w .bytes, ← e) (q .ensures .2), q .ensures .3)
 
 pub hand-job-spec : {M : Type 1} → statement M
-hand-job-spec = tie.close (tie.spec deliver-record-requires send-requires same-length returns)
+hand-job-spec = tie.close (tie.spec (λ c κs. search needs) send-requires (λ c. search needs) returns)

@@ -34,7 +34,10 @@ abbrev μ-loop : tie.MeasureT-loop
 -- the records of the next ready job
 abbrev more : (c : tie.Else1 Inv-loop μ-loop) → List Rec
 more c =
-    let a = c .before .before .before .before .before .before .before .before .args in let j = c .before .next-ready .result in
+    let at-1 = c .before in
+    let j = at-1 .next-ready .result in
+    let at-7 = at-1 .before .before .before .before .before .before in
+    let a = at-7 .before .args in
     deliversFrom (a .plan) (a .c .own) (a .c .cballot) (getD (a .c .table) j noRow) j
 
 -- one turn with a ready job, of a box with this core
@@ -52,7 +55,9 @@ fitting : (c : tie.Else1 Inv-loop μ-loop)
     → let a = c .before .before .before .before .before .before .before .before .args in
     c .before .before .before .loop .used + length (encodeAll (a .plan) (more c)) ≤ length (a .t .now)
 fitting c =
-    let l = c .before .before .before .loop in let r = c .before .before .before .before .before .before .before .before .pre .1 in
+    let at-6 = c .before .before .before .before .before .before in
+    let asked = at-6 .before .before .pre in
+    let l = c .before .before .before .loop in let r = asked .1 in
     let g = turning c (r .0) in omega (arith, g .fits, l .inv .5 (r .0) .1, r .1)
 
 -- a ready job's number is one of the table's
@@ -68,7 +73,9 @@ cast-n c = search needs
 
 loop-holds : tie.Need-loop-holds Inv-loop μ-loop
 loop-holds c =
-    let a = c .before .before .before .before .args in let S = plan-says (a .plan) (c .before .before .before .before .pre .0) in (
+    let a = c .before .before .before .before .args in
+    let asked = c .before .before .before .before .pre in
+    let S = plan-says (a .plan) (asked .0) in (
       search needs,
       S .jobs-most,
       refl,
@@ -86,10 +93,15 @@ same-length c = c .before .before .before .loop .inv .2
 
 returns : tie.Need-returns Inv-loop μ-loop
 returns c =
-    let a = c .before .before .before .before .before .before .before .before .args in let l = c .before .before .before .loop in λ v.
+    let if1-taken = c .if1 .taken in
+    let at-1 = c .before in
+    let next-ready-says = at-1 .next-ready .ensures in
+    let at-7 = at-1 .before .before .before .before .before .before in
+    let a = at-7 .before .args in
+    let l = c .before .before .before .loop in λ v.
     let q = l .inv .5 v in let x = boxOf (a .c) v in
     let e : nextReady (a .plan) (handTurns (a .plan) x (l .i) .box) ≡ noJob =
-    rw (← q .0) (sym (c .before .next-ready .ensures .0 (a .plan) (putSent x (l .sent)) refl refl refl) ∙ c .if1 .taken) in
+    rw (← q .0) (sym (next-ready-says .0 (a .plan) (putSent x (l .sent)) refl refl refl) ∙ if1-taken) in
     let s : l .i + (a .plan .jobs - l .i) ≡ a .plan .jobs = omega (arith, l .inv .0) in
     let z : handOut (a .plan) x ≡ handTurns (a .plan) x (l .i) =
     sym (ap (handTurns (a .plan) x) s) ∙ turns-stay (a .plan) x (l .i) (a .plan .jobs - l .i) e in
@@ -115,8 +127,11 @@ part-hand-job-end c = search needs
 
 hand-job-requires : tie.Need-hand-job-requires Inv-loop μ-loop
 hand-job-requires c κs =
-    let l = c .before .before .before .before .before .before .before .loop in let f = fitting (c .before .before .before .before) in (
-      c .before .before .before .before .before .before .before .before .before .before .before .before .pre .0,
+    let at-4 = c .before .before .before .before in
+    let at-7 = at-4 .before .before .before in
+    let asked = at-7 .before .before .before .before .before .pre in
+    let l = at-7 .loop in let f = fitting (at-4) in (
+      asked .0,
       rw (rest-of (l .used) (l .t), length-drop) (omega (arith, f, l .inv .2)),
     )
 
@@ -129,7 +144,10 @@ add-records : tie.Need-add-records Inv-loop μ-loop
 add-records c = search needs
 
 array-write-sent : tie.Need-array-write-sent Inv-loop μ-loop
-array-write-sent c = low-job (c .before .before .before .before .before .before .before .before .before)
+array-write-sent c =
+    let at-6 = c .before .before .before .before .before .before in
+    let at-9 = at-6 .before .before .before in
+    low-job (at-9)
 
 add-i : tie.Need-add-i Inv-loop μ-loop
 add-i c = search needs
@@ -139,9 +157,11 @@ loop-less c = search needs
 
 loop-again : tie.Need-loop-again Inv-loop μ-loop
 loop-again c =
-    let d = c .before .before .before .before .before .before .before .before .before in
+    let at-4 = c .before .before .before .before in
+    let at-9 = at-4 .before .before .before .before .before in
+    let d = at-9 in
     let a = d .before .before .before .before .before .before .before .before .args in
-    let l = d .before .before .before .loop in let q = c .before .before .before .before .hand-job in let f = fitting d in (
+    let l = d .before .before .before .loop in let q = at-4 .hand-job in let f = fitting d in (
       omega (arith, d .before .before .loop-test .taken),
       l .inv .1,
       c .before .before .before .t .given .1 ∙ l .inv .2,
@@ -162,7 +182,8 @@ same-length-2 c = c .before .loop .inv .2
 
 returns-2 : tie.Need-returns-2 Inv-loop μ-loop
 returns-2 c =
-    let a = c .before .before .before .before .before .before .args in let l = c .before .loop in let e : l .i ≡ a .plan .jobs = omega arith in λ v.
+    let a = c .before .before .before .before .before .before .args in
+    let l = c .before .loop in let e : l .i ≡ a .plan .jobs = omega arith in λ v.
     let q = l .inv .5 v in let x = boxOf (a .c) v in (
       q .0 ∙ ap (λ (k : ℕ). handTurns (a .plan) x k .box) e,
       q .1 ∙ ap (λ (k : ℕ). length (encodeAll (a .plan) (handTurns (a .plan) x k .sent))) e,

@@ -51,9 +51,10 @@ loop-less c = search needs
 -- the job was taken, or not all open jobs are above it, or it does not go before the best
 loop-again : tie.Need-loop-again Inv-loop μ-loop
 loop-again c =
-    let a = c .before .before .before .before .before .before .before .before .args in
-    let l = c .before .before .before .before .before .before .loop in let b = l .inv .2 in
-    let e = c .before .stamp-below .ensures in (
+    let e = c .before .stamp-below .ensures in
+    let at-6 = c .before .before .before .before .before .before in
+    let a = at-6 .before .before .args in
+    let l = at-6 .loop in let b = l .inv .2 in (
       omega arith,
       l .inv .1,
       ⊎-elim

@@ -51,8 +51,12 @@ loop-less c = search needs
 
 loop-again : tie.Need-loop-again Inv-loop μ-loop
 loop-again c =
-    let a = c .before .before .before .before .before .before .args in let l = c .before .before .before .before .before .loop in
-    (omega arith, rw (l .inv .1, c .stamp-below .ensures, c .before .row-open .ensures) (all-step (above (a .t1) (a .s)) (l .k)))
+    let stamp-below-says = c .stamp-below .ensures in
+    let row-open-says = c .before .row-open .ensures in
+    let at-5 = c .before .before .before .before .before in
+    let a = at-5 .before .args in
+    let l = at-5 .loop in
+    (omega arith, rw (l .inv .1, stamp-below-says, row-open-says) (all-step (above (a .t1) (a .s)) (l .k)))
 
 returns : tie.Need-returns Inv-loop μ-loop
 unfolding openAbove isOpen rowAt

@@ -7,44 +7,43 @@ use borrow.Author.Needs.{needs}
 use Rattle.sending.proofs.sends.goes_to.Statement.{statement}
 use Rattle.sending.proofs.sends.goes_to.Tie as tie
 
-home-of-requires : tie.Need-home-of-requires
-home-of-requires c κs = search needs
-
-named-requires : tie.Need-named-requires
-named-requires c κs = search needs
-
 returns : tie.Need-returns
 unfolding goesTo
-returns c = rw (c .named .ensures, c .before .before .before .before .before .home-of .ensures) (sym (pick-true _ _ (le-leb _ _ (c .before .if1 .taken))))
-
-ballot-at-requires : tie.Need-ballot-at-requires
-ballot-at-requires c κs = search needs
-
-named-requires-2 : tie.Need-named-requires-2
-named-requires-2 c κs = search needs
+returns c =
+    let named-says = c .named .ensures in
+    let if1-taken = c .before .if1 .taken in
+    let home-of-says = c .before .before .before .before .before .home-of .ensures in
+    rw (named-says, home-of-says) (sym (pick-true _ _ (le-leb _ _ (if1-taken))))
 
 returns-2 : tie.Need-returns-2
 unfolding goesTo
 returns-2 c =
-    rw (c .before .before .named2 .ensures, c .before .before .before .before .ballot-at .ensures, c .before .before .before .before .before .before .before .before .before .before .before .home-of .ensures)
-    (sym (pick-false _ _ (lt-leb _ _ (c .before .before .before .before .before .before .before .if1 .left)) ∙ pick-true _ _ (eq-eqb _ _ (c .before .before .before .before .before .if2 .taken))))
-
-same-home-requires : tie.Need-same-home-requires
-same-home-requires c κs = search needs
+    let named2-says = c .before .before .named2 .ensures in
+    let ballot-at-says = c .before .before .before .before .ballot-at .ensures in
+    let at-5 = c .before .before .before .before .before in
+    let if2-taken = at-5 .if2 .taken in
+    let if1-left = at-5 .before .before .if1 .left in
+    let home-of-says = at-5 .before .before .before .before .before .before .home-of .ensures in
+    rw (named2-says, ballot-at-says, home-of-says)
+    (sym (pick-false _ _ (lt-leb _ _ (if1-left)) ∙ pick-true _ _ (eq-eqb _ _ (if2-taken))))
 
 returns-3 : tie.Need-returns-3
 unfolding goesTo
-returns-3 c = rw (c .before .before .before .same-home .ensures) (sym (pick-false _ _ (lt-leb _ _ (c .before .before .before .before .before .before .if1 .left)) ∙ pick-false _ _ (ne-eqb _ _ (c .before .before .before .before .if2 .left))))
+returns-3 c =
+    let same-home-says = c .before .before .before .same-home .ensures in
+    let if2-left = c .before .before .before .before .if2 .left in
+    let if1-left = c .before .before .before .before .before .before .if1 .left in
+    rw (same-home-says) (sym (pick-false _ _ (lt-leb _ _ (if1-left)) ∙ pick-false _ _ (ne-eqb _ _ (if2-left))))
 
 pub goes-to-spec : {M : Type 1} → statement M
 goes-to-spec =
     tie.close
     (tie.spec
-    home-of-requires
-    named-requires
+    (λ c κs. search needs)
+    (λ c κs. search needs)
     returns
-    ballot-at-requires
-    named-requires-2
+    (λ c κs. search needs)
+    (λ c κs. search needs)
     returns-2
-    same-home-requires
+    (λ c κs. search needs)
     returns-3)

@@ -32,22 +32,29 @@ meant : (c : tie.Then1 Inv-loop μ-loop)
     → let a = c .before .before .before .before .before .before .args in
     goesTo (a .plan) (a .r) (boxNo (c .before .before .before .loop .p)) ≡ true
 meant c =
-    let a = c .before .before .before .before .before .before .args in let l = c .before .before .before .loop in
-    sym (goes-same (a .plan) (a .r) (l .q) (boxNo (l .p)) (l .inv .10)) ∙ sym (c .before .goes-to .ensures) ∙ c .if1 .taken
+    let if1-taken = c .if1 .taken in
+    let goes-to-says = c .before .goes-to .ensures in
+    let a = c .before .before .before .before .before .before .args in
+    let l = c .before .before .before .loop in
+    sym (goes-same (a .plan) (a .r) (l .q) (boxNo (l .p)) (l .inv .10)) ∙ sym (goes-to-says) ∙ if1-taken
 
 bytes : (c : tie.Then1 Inv-loop μ-loop)
     → let a = c .before .before .before .before .before .before .args in let l = c .before .before .before .loop in
     sentTo (a .plan) (a .r) (l .p) ≡ encode (a .plan) (addressed (l .q) (boxNo (l .p)))
 bytes c =
-    let a = c .before .before .before .before .before .before .args in let l = c .before .before .before .loop in
+    let a = c .before .before .before .before .before .before .args in
+    let l = c .before .before .before .loop in
     sent-meant (a .plan) (a .r) (l .p) (meant c) .0 ∙ ap (encode (a .plan)) (sym (addressed-same (a .r) (l .q) (boxNo (l .p)) (l .inv .10)))
 
 fits : (c : tie.Then1 Inv-loop μ-loop)
     → let a = c .before .before .before .before .before .before .args in let l = c .before .before .before .loop in
     l .used + length (encode (a .plan) (addressed (l .q) (boxNo (l .p)))) ≤ length (a .t .now)
 fits c =
-    let a = c .before .before .before .before .before .before .args in let l = c .before .before .before .loop in
-    let k = for-room (sentTo (a .plan) (a .r)) (c .before .before .before .before .boxes-of .result) (l .p) (c .before .before .loop-test .taken) in
+    let loop-test-taken = c .before .before .loop-test .taken in
+    let boxes-of-result = c .before .before .before .before .boxes-of .result in
+    let a = c .before .before .before .before .before .before .args in
+    let l = c .before .before .before .loop in
+    let k = for-room (sentTo (a .plan) (a .r)) (boxes-of-result) (l .p) (loop-test-taken) in
     rw (← bytes c) (omega (arith, k, l .inv .4, l .inv .5))
 
 boxes-of-requires : tie.Need-boxes-of-requires Inv-loop μ-loop
@@ -79,7 +86,9 @@ part-put-record-end c = search needs
 put-record-requires : tie.Need-put-record-requires Inv-loop μ-loop
 unfolding addressed
 put-record-requires c κs =
-    let sound = c .before .before .before .before .before .before .before .pre .0 in let l = c .before .before .before .before .loop in
+    let at-4 = c .before .before .before .before in
+    let asked = at-4 .before .before .before .pre in
+    let sound = asked .0 in let l = at-4 .loop in
     (sound, rw (rest-of (l .used) (l .t), length-drop) (omega (arith, fits (c .before), l .inv .3)))
 
 add-used : tie.Need-add-used Inv-loop μ-loop
@@ -98,7 +107,9 @@ loop-less c = search needs
 loop-again : tie.Need-loop-again Inv-loop μ-loop
 unfolding addressed
 loop-again c =
-    let a = c .before .before .before .before .before .before .args in let l = c .before .before .before .loop in
+    let goes-to-says = c .before .goes-to .ensures in
+    let a = c .before .before .before .before .before .before .args in
+    let l = c .before .before .before .loop in
     let f = sentTo (a .plan) (a .r) in
     ⊎-elim
     (λ w.
@@ -120,7 +131,7 @@ loop-again c =
       rw (w .6) (addressed-same (a .r) (l .q) (boxNo (l .p)) (l .inv .10)),
     ))
     (λ w.
-    let h = sym (goes-same (a .plan) (a .r) (l .q) (boxNo (l .p)) (l .inv .10)) ∙ sym (c .before .goes-to .ensures) ∙ w .0 .left in
+    let h = sym (goes-same (a .plan) (a .r) (l .q) (boxNo (l .p)) (l .inv .10)) ∙ sym (goes-to-says) ∙ w .0 .left in
     let m = sent-spared (a .plan) (a .r) (l .p) h in
     let i = l .inv in
     rw (w .1, w .2, w .3, w .4, m .0, m .1) (omega arith, i .1, i .2, i .3, i .4, i .5, i .6, omega (arith, i .7), i .8, i .9, i .10))
@@ -132,7 +143,8 @@ same-length c = search needs
 returns : tie.Need-returns Inv-loop μ-loop
 unfolding sentBytes sentCount
 returns c =
-    let a = c .before .before .before .before .args in let l = c .before .loop in
+    let a = c .before .before .before .before .args in
+    let l = c .before .loop in
     let e : l .p ≡ boxesOf (a .plan) = omega (arith, l .inv .1) in
     let f = allFor (sentTo (a .plan) (a .r)) in (
       l .inv .5 ∙ ap (λ (n : ℕ). length (f n)) e,

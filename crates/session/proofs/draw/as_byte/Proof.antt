@@ -11,12 +11,9 @@ returns : tie.Need-returns
 unfolding capped
 returns c = sym (pick-true _ _ (le-leb _ _ (c .if1 .taken)))
 
-cast-result : tie.Need-cast-result
-cast-result c = search needs
-
 returns-2 : tie.Need-returns-2
 unfolding capped
 returns-2 c = sym (pick-false _ _ (lt-leb _ _ (c .if1 .left)))
 
 pub as-byte-spec : {M : Type 1} → statement M
-as-byte-spec = tie.close (tie.spec returns cast-result returns-2)
+as-byte-spec = tie.close (tie.spec returns (λ c. search needs) returns-2)

@@ -3,11 +3,8 @@ use borrow.Author.Needs.{needs}
 use Rattle.session.proofs.draw.with_districts.Statement.{statement}
 use Rattle.session.proofs.draw.with_districts.Tie as tie
 
-as-byte-requires : tie.Need-as-byte-requires
-as-byte-requires c κs = search needs
-
 returns : tie.Need-returns
 returns c = rw (c .as-byte .ensures)
 
 pub with-districts-spec : {M : Type 1} → statement M
-with-districts-spec = tie.close (tie.spec as-byte-requires returns)
+with-districts-spec = tie.close (tie.spec (λ c κs. search needs) returns)

@@ -10,29 +10,13 @@ use borrow.Author.Needs.{needs}
 use Rattle.session.proofs.feed.feed_chunk.Statement.{statement}
 use Rattle.session.proofs.feed.feed_chunk.Tie as tie
 
-within-requires : tie.Need-within-requires
-within-requires c κs = search needs
-
-sub-feed-into : tie.Need-sub-feed-into
-sub-feed-into c = search needs
-
-part-feed-into-start : tie.Need-part-feed-into-start
-part-feed-into-start c = search needs
-
-part-feed-into-end : tie.Need-part-feed-into-end
-part-feed-into-end c = search needs
-
-feed-into-requires : tie.Need-feed-into-requires
-feed-into-requires c κs = search needs
-
-same-length : tie.Need-same-length
-same-length c = search needs
-
 returns : tie.Need-returns
 returns c =
-    let a = c .before .before .before .before .before .before .before .before .before .args in
-    let q = c .before .before .feed-into .ensures in
-    let k = c .before .before .before .before .before .before .before .within in
+    let at-2 = c .before .before in
+    let q = at-2 .feed-into .ensures in
+    let at-7 = at-2 .before .before .before .before .before in
+    let a = at-7 .before .before .args in
+    let k = at-7 .within in
     let l = a .chunk .now in
     let m : length l ≡ 2048 = search needs in
     let z : k .result - 0 ≡ k .result = omega arith in
@@ -43,10 +27,10 @@ pub feed-chunk-spec : {M : Type 1} → statement M
 feed-chunk-spec =
     tie.close
     (tie.spec
-    within-requires
-    sub-feed-into
-    part-feed-into-start
-    part-feed-into-end
-    feed-into-requires
-    same-length
+    (λ c κs. search needs)
+    (λ c. search needs)
+    (λ c. search needs)
+    (λ c. search needs)
+    (λ c κs. search needs)
+    (λ c. search needs)
     returns)

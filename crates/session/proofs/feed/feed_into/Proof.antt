@@ -16,7 +16,22 @@ use Rattle.session.proofs.feed.feed_into.Tie as tie
 
 abbrev Inv-loop : tie.InvT-loop
 Inv-loop chunk post₀ t₀ boxes₀ used₀ desk₀ line₀ known₀ index₀ count₀ text₀ from₀ post t boxes used desk line known index count text from =
-    Reads (record { night = record { boxes = boxes₀; used = used₀ }; desk = desk₀; line = line₀ }) post₀ chunk t₀ from post t boxes used desk line known index count text
+    Reads
+    (record { night = record { boxes = boxes₀; used = used₀ }; desk = desk₀; line = line₀ })
+    post₀
+    chunk
+    t₀
+    from
+    post
+    t
+    boxes
+    used
+    desk
+    line
+    known
+    index
+    count
+    text
 
 abbrev μ-loop : tie.MeasureT-loop
 μ-loop chunk post₀ t₀ boxes₀ used₀ desk₀ line₀ known₀ index₀ count₀ text₀ from₀ post t boxes used desk line known index count text from = length chunk - from
@@ -37,7 +52,9 @@ loop-of c = c .before .before .before .before
 -- a tray has no more bytes than a number can count
 short : (c : tie.At-loop Inv-loop μ-loop) → length (c .loop .t) < 18446744073709551616
 short c =
-    let b = c .before .before .before .before .before .before .before in
+    let at-6 = c .before .before .before .before .before .before in
+    let at-7 = at-6 .before in
+    let b = at-7 in
     let z : length (b .args .t .now) < 18446744073709551616 = search needs in
     omega (arith, z, c .loop .inv .t-long)
 
@@ -61,7 +78,8 @@ loop-holds c =
       holds = record { line-is = refl; desk-is = refl; night-is = refl; post-is = refl };
       said = refl;
       printed = sym (onto-nil (a .t .now));
-      sure = record { indexed = indexed-none (a .s .desk .plan) (a .post .now) (a .s .night .used) _ (omega arith) refl; loose = λ h. refl; box = λ i h. never h (none-known mostBoxes i) };
+      sure =
+          record { indexed = indexed-none (a .s .desk .plan) (a .post .now) (a .s .night .used) _ (omega arith) refl; loose = λ h. refl; box = λ i h. never h (none-known mostBoxes i) };
     }
 
 slice-aggregate-ask : tie.Need-slice-aggregate-ask Inv-loop μ-loop
@@ -98,7 +116,16 @@ add-text c =
     let e = ended-of p in
     let k = ask-of e in
     let l = loop-of k .loop in
-    let m = text-low (l .inv) (k .ask .ensures) (e .if1 .taken) (k .ask .kept .1 .1 .1 .1 .1 .1 .0) _ (p .turn .ensures) (p .turn .kept .1 .1 .1 .1 .1 .1 .0) (w .t .given .1) in
+    let m =
+    text-low
+    (l .inv)
+    (k .ask .ensures)
+    (e .if1 .taken)
+    (k .ask .kept .1 .1 .1 .1 .1 .1 .0)
+    _
+    (p .turn .ensures)
+    (p .turn .kept .1 .1 .1 .1 .1 .1 .0)
+    (w .t .given .1) in
     omega (arith, m, short (loop-of k))
 
 array-write-known : tie.Need-array-write-known Inv-loop μ-loop
@@ -117,12 +144,23 @@ loop-less c =
 
 loop-again : tie.Need-loop-again Inv-loop μ-loop
 loop-again c =
-    let w = c .before .before .before .before .before in
+    let if2-taken = c .before .if2 .taken in
+    let at-5 = c .before .before .before .before .before in
+    let w = at-5 in
     let p = turn-of w in
     let e = ended-of p in
     let k = ask-of e in
     let l = loop-of k .loop in
-    steps (l .inv) (k .ask .ensures) (e .if1 .taken) (k .ask .kept .1 .1 .1 .1 .1 .1 .0) _ (p .turn .ensures) (p .turn .kept .1 .1 .1 .1 .1 .1 .0) (w .t .given .1) (c .before .if2 .taken)
+    steps
+    (l .inv)
+    (k .ask .ensures)
+    (e .if1 .taken)
+    (k .ask .kept .1 .1 .1 .1 .1 .1 .0)
+    _
+    (p .turn .ensures)
+    (p .turn .kept .1 .1 .1 .1 .1 .1 .0)
+    (w .t .given .1)
+    (if2-taken)
 
 loop-less-2 : tie.Need-loop-less-2 Inv-loop μ-loop
 loop-less-2 c =
@@ -131,12 +169,23 @@ loop-less-2 c =
 
 loop-again-2 : tie.Need-loop-again-2 Inv-loop μ-loop
 loop-again-2 c =
-    let w = c .before .before .before .before in
+    let if2-left = c .if2 .left in
+    let at-4 = c .before .before .before .before in
+    let w = at-4 in
     let p = turn-of w in
     let e = ended-of p in
     let k = ask-of e in
     let l = loop-of k .loop in
-    passes (l .inv) (k .ask .ensures) (e .if1 .taken) (k .ask .kept .1 .1 .1 .1 .1 .1 .0) _ (p .turn .ensures) (p .turn .kept .1 .1 .1 .1 .1 .1 .0) (w .t .given .1) (c .if2 .left)
+    passes
+    (l .inv)
+    (k .ask .ensures)
+    (e .if1 .taken)
+    (k .ask .kept .1 .1 .1 .1 .1 .1 .0)
+    _
+    (p .turn .ensures)
+    (p .turn .kept .1 .1 .1 .1 .1 .1 .0)
+    (w .t .given .1)
+    (if2-left)
 
 loop-less-3 : tie.Need-loop-less-3 Inv-loop μ-loop
 loop-less-3 c =

@@ -9,9 +9,6 @@ use borrow.Author.Needs.{needs}
 use Rattle.session.proofs.hear.hear_plan.Statement.{statement}
 use Rattle.session.proofs.hear.hear_plan.Tie as tie
 
-no-record-requires : tie.Need-no-record-requires
-no-record-requires c κs = search needs
-
 returns : tie.Need-returns
 unfolding planLine
 returns c =
@@ -19,17 +16,13 @@ returns c =
     plain-as (sym (pick-true (a .next) (a .desk) h)) (sym (pick-true [] _ h))
     (record { says = record { desk-is = refl; long = refl; most = search needs; text-is = sym (onto-nil (a .t .now)) }; stays = refl; unknown = refl })
 
-hear-unread-requires : tie.Need-hear-unread-requires
-hear-unread-requires c κs = search needs
-
-same-length : tie.Need-same-length
-same-length c = search needs
-
 returns-2 : tie.Need-returns-2
 unfolding planLine
 returns-2 c =
-    let a = c .before .before .before .before .before .before .args in let h = c .before .before .before .before .if1 .left in
-    plain-as (sym (pick-false (a .next) (a .desk) h)) (sym (pick-false [] _ h)) (c .before .before .hear-unread .ensures)
+    let hear-unread-says = c .before .before .hear-unread .ensures in
+    let h = c .before .before .before .before .if1 .left in
+    let a = c .before .before .before .before .before .before .args in
+    plain-as (sym (pick-false (a .next) (a .desk) h)) (sym (pick-false [] _ h)) (hear-unread-says)
 
 pub hear-plan-spec : {M : Type 1} → statement M
-hear-plan-spec = tie.close (tie.spec no-record-requires returns hear-unread-requires same-length returns-2)
+hear-plan-spec = tie.close (tie.spec (λ c κs. search needs) returns (λ c κs. search needs) (λ c. search needs) returns-2)

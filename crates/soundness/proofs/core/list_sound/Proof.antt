@@ -27,7 +27,9 @@ array-copy-out-first c = search needs
 
 loop-holds : tie.Need-loop-holds Inv-loop μ-loop
 unfolding placesSound allBelow
-loop-holds c = (search needs, refl, seen-none 256 (c .before .before .before .before .before .before .args .x .core .list), refl)
+loop-holds c =
+    let given = c .before .before .before .before .before .before .args in
+    (search needs, refl, seen-none 256 (given .x .core .list), refl)
 
 cast-at : tie.Need-cast-at Inv-loop μ-loop
 cast-at c = search needs
@@ -59,22 +61,26 @@ loop-less c = search needs
 loop-again : tie.Need-loop-again Inv-loop μ-loop
 unfolding placesSound nthSound Seen
 loop-again c =
-    let a = c .before .before .before .before .before .before .before .before .before .before .before .before .before .args in
-    let h = c .before .before .before .before .before .before .before .before .before .home-of in
-    let l = c .before .before .before .before .before .before .loop in
+    let place-sound-says = c .before .place-sound .ensures in
+    let at-6 = c .before .before .before .before .before .before in
+    let at-9 = at-6 .before .before .before in
+    let a = at-9 .before .before .before .before .args in
+    let h = at-9 .home-of in
+    let l = at-6 .loop in
     let list = a .x .core .list in let job = getD list (l .i) noListed .job in
     let e : l .i + 1 - 1 ≡ l .i = omega arith in
     let seen : getD (l .seen) job false ≡ repeats list job (l .i) = l .inv .2 .1 job (array-read-place-sound (c .before .before)) in (
       omega arith,
       rw e,
       seen-step 256 list (l .seen) (l .i) (l .inv .2),
-      rw (l .inv .3, c .before .place-sound .ensures, l .inv .1, seen) (all-step (nthSound (a .plan) (h .result) (a .x .core .count) list) (l .i)),
+      rw (l .inv .3, place-sound-says, l .inv .1, seen) (all-step (nthSound (a .plan) (h .result) (a .x .core .count) list) (l .i)),
     )
 
 returns : tie.Need-returns Inv-loop μ-loop
 returns c =
-    let a = c .before .before .before .before .before .before .before .before .before .args in
-    let l = c .before .before .loop in let h = c .before .before .before .before .before .home-of in
+    let at-5 = c .before .before .before .before .before in
+    let a = at-5 .before .before .before .before .args in
+    let l = c .before .before .loop in let h = at-5 .home-of in
     let e : l .i ≡ 64 = omega arith in
     rw (l .inv .3, e, h .ensures) (list-is (a .plan) (a .x))
 

@@ -6,19 +6,13 @@ use borrow.Author.Needs.{needs}
 use Rattle.soundness.proofs.core.place_sound.Statement.{statement}
 use Rattle.soundness.proofs.core.place_sound.Tie as tie
 
-entry-sound-requires : tie.Need-entry-sound-requires
-entry-sound-requires c κs = search needs
-
 returns : tie.Need-returns
 unfolding placeSound
 returns c = c .entry-sound .ensures ∙ sym (pick-true _ _ (c .before .if1 .taken))
-
-is-no-stamp-requires : tie.Need-is-no-stamp-requires
-is-no-stamp-requires c κs = search needs
 
 returns-2 : tie.Need-returns-2
 unfolding placeSound noEntry
 returns-2 c = rw (c .is-no-stamp .ensures) (sym (pick-false _ _ (c .before .before .before .if1 .left)))
 
 pub place-sound-spec : {M : Type 1} → statement M
-place-sound-spec = tie.close (tie.spec entry-sound-requires returns is-no-stamp-requires returns-2)
+place-sound-spec = tie.close (tie.spec (λ c κs. search needs) returns (λ c κs. search needs) returns-2)

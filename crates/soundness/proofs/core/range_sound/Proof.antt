@@ -4,15 +4,9 @@ use borrow.Author.Needs.{needs}
 use Rattle.soundness.proofs.core.range_sound.Statement.{statement}
 use Rattle.soundness.proofs.core.range_sound.Tie as tie
 
-is-box-requires : tie.Need-is-box-requires
-is-box-requires c κs = search needs
-
-time-fits-requires : tie.Need-time-fits-requires
-time-fits-requires c κs = search needs
-
 returns : tie.Need-returns
 unfolding rangeSound
 returns c = rw (c .before .is-box .ensures, c .time-fits .ensures)
 
 pub range-sound-spec : {M : Type 1} → statement M
-range-sound-spec = tie.close (tie.spec is-box-requires time-fits-requires returns)
+range-sound-spec = tie.close (tie.spec (λ c κs. search needs) (λ c κs. search needs) returns)

@@ -40,12 +40,18 @@ loop-less c = search needs
 
 loop-again : tie.Need-loop-again Inv-loop μ-loop
 loop-again c =
-    let a = c .before .before .before .before .before .args in let l = c .before .before .loop in
-    (omega arith, rw (l .inv .1, c .is-job .ensures) (all-step (λ (k : ℕ). isJob (a .plan) k || not (getD (a .x .core .sent) k false)) (l .j)))
+    let is-job-says = c .is-job .ensures in
+    let a = c .before .before .before .before .before .args in
+    let l = c .before .before .loop in
+    (omega arith, rw (l .inv .1, is-job-says) (all-step (λ (k : ℕ). isJob (a .plan) k || not (getD (a .x .core .sent) k false)) (l .j)))
 
 returns : tie.Need-returns Inv-loop μ-loop
 unfolding sentSound sentAt
-returns c = let a = c .before .before .before .before .args in let l = c .before .loop in let e : l .j ≡ 64 = omega arith in l .inv .1 ∙ ap (allBelow (λ (k : ℕ). isJob (a .plan) k || not (getD (a .x .core .sent) k false))) e
+returns c =
+    let a = c .before .before .before .before .args in
+    let l = c .before .loop in
+    let e : l .j ≡ 64 = omega arith in
+    l .inv .1 ∙ ap (allBelow (λ (k : ℕ). isJob (a .plan) k || not (getD (a .x .core .sent) k false))) e
 
 pub sent-sound-spec : {M : Type 1} → statement M
 sent-sound-spec =

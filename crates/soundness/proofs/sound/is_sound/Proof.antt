@@ -34,75 +34,59 @@ kept-asked : (c : tie.After-marks-sound)
     allKeptSound (a .plan) (a .x) && allMarksSound (a .plan) (a .x) ≡ c .before .kept-sound .result && c .marks-sound .result
 kept-asked c = rw (c .before .kept-sound .ensures, c .marks-sound .ensures)
 
-plan-sound-requires : tie.Need-plan-sound-requires
-plan-sound-requires c κs = search needs
-
 returns : tie.Need-returns
 unfolding sound
 returns c = rw (sym (c .before .plan-sound .ensures) ∙ c .if1 .left)
-
-range-sound-requires : tie.Need-range-sound-requires
-range-sound-requires c κs = search needs
-
-ballots-sound-requires : tie.Need-ballots-sound-requires
-ballots-sound-requires c κs = search needs
 
 returns-2 : tie.Need-returns-2
 unfolding sound boxSound
 returns-2 c = rw (plan-held (c .before .before .before), range-asked (c .before) ∙ c .if2 .left)
 
-table-sound-requires : tie.Need-table-sound-requires
-table-sound-requires c κs = search needs
-
-sent-sound-requires : tie.Need-sent-sound-requires
-sent-sound-requires c κs = search needs
-
 returns-3 : tie.Need-returns-3
 unfolding sound boxSound
 returns-3 c =
-    rw (plan-held (c .before .before .before .before .before .before), range-held (c .before .before .before), rows-asked (c .before) ∙ c .if3 .left)
-
-kept-sound-requires : tie.Need-kept-sound-requires
-kept-sound-requires c κs = search needs
-
-marks-sound-requires : tie.Need-marks-sound-requires
-marks-sound-requires c κs = search needs
+    let if3-left = c .if3 .left in
+    let at-6 = c .before .before .before .before .before .before in
+    rw (plan-held (at-6), range-held (c .before .before .before), rows-asked (c .before) ∙ if3-left)
 
 returns-4 : tie.Need-returns-4
 unfolding sound boxSound
 returns-4 c =
-    let p = plan-held (c .before .before .before .before .before .before .before .before .before) in
-    rw (p, range-held (c .before .before .before .before .before .before), rows-held (c .before .before .before), kept-asked (c .before) ∙ c .if4 .left)
-
-list-sound-requires : tie.Need-list-sound-requires
-list-sound-requires c κs = search needs
-
-vote-sound-requires : tie.Need-vote-sound-requires
-vote-sound-requires c κs = search needs
+    let if4-left = c .if4 .left in
+    let at-6 = c .before .before .before .before .before .before in
+    let at-9 = at-6 .before .before .before in
+    let p = plan-held (at-9) in
+    rw (p, range-held (at-6), rows-held (c .before .before .before), kept-asked (c .before) ∙ if4-left)
 
 returns-5 : tie.Need-returns-5
 unfolding sound boxSound
 returns-5 c =
-    let p = plan-held (c .before .before .before .before .before .before .before .before .before .before .before) in
-    let r = range-held (c .before .before .before .before .before .before .before .before) in
-    let t = rows-held (c .before .before .before .before .before) in
-    rw (p, r, t, kept-asked (c .before .before .before) ∙ c .before .before .if4 .taken, c .before .list-sound .ensures, c .vote-sound .ensures)
+    let vote-sound-says = c .vote-sound .ensures in
+    let list-sound-says = c .before .list-sound .ensures in
+    let if4-taken = c .before .before .if4 .taken in
+    let at-5 = c .before .before .before .before .before in
+    let at-8 = at-5 .before .before .before in
+    let at-11 = at-8 .before .before .before in
+    let p = plan-held (at-11) in
+    let r = range-held (at-8) in
+    let t = rows-held (at-5) in
+    rw (p, r, t, kept-asked (c .before .before .before) ∙ if4-taken, list-sound-says, vote-sound-says)
 
 pub is-sound-spec : {M : Type 1} → statement M
 is-sound-spec =
     tie.close
     (tie.spec
-    plan-sound-requires
+    (λ c κs. search needs)
     returns
-    range-sound-requires
-    ballots-sound-requires
+    (λ c κs. search needs)
+    (λ c κs. search needs)
     returns-2
-    table-sound-requires
-    sent-sound-requires
+    (λ c κs. search needs)
+    (λ c κs. search needs)
     returns-3
-    kept-sound-requires
-    marks-sound-requires
+    (λ c κs. search needs)
+    (λ c κs. search needs)
     returns-4
-    list-sound-requires
-    vote-sound-requires
+    (λ c κs. search needs)
+    (λ c κs. search needs)
     returns-5)

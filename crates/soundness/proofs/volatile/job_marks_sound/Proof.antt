@@ -6,12 +6,6 @@ use borrow.Author.Needs.{needs}
 use Rattle.soundness.proofs.volatile.job_marks_sound.Statement.{statement}
 use Rattle.soundness.proofs.volatile.job_marks_sound.Tie as tie
 
-only-boxes-requires : tie.Need-only-boxes-requires
-only-boxes-requires c κs = search needs
-
-unnamed-below-requires : tie.Need-unnamed-below-requires
-unnamed-below-requires c κs = search needs
-
 returns : tie.Need-returns
 returns c = let a = c .before .args in sym (ap (jobMarksSound (a .plan) (a .job)) (c .if1 .taken) ∙ unmarked (a .plan) (a .job))
 
@@ -20,4 +14,4 @@ unfolding jobMarksSound
 returns-2 c = rw (c .before .only-boxes .ensures, c .unnamed-below .ensures)
 
 pub job-marks-sound-spec : {M : Type 1} → statement M
-job-marks-sound-spec = tie.close (tie.spec returns only-boxes-requires unnamed-below-requires returns-2)
+job-marks-sound-spec = tie.close (tie.spec returns (λ c κs. search needs) (λ c κs. search needs) returns-2)

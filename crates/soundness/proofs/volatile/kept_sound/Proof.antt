@@ -58,13 +58,17 @@ loop-less c = search needs
 loop-again : tie.Need-loop-again Inv-loop μ-loop
 unfolding placesSound placeSound
 loop-again c =
-    let a = c .before .before .before .before .before .before .before .before .args in let v = a .x .volatile in
-    let l = c .before .before .before .before .loop in
-    (omega arith, rw (l .inv .1, c .pair-sound .ensures) (all-step (placeSound (a .plan) (v .«kept_ballots») (v .«kept_stamps»)) (l .at)))
+    let pair-sound-says = c .pair-sound .ensures in
+    let at-4 = c .before .before .before .before in
+    let a = at-4 .before .before .before .before .args in
+    let v = a .x .volatile in
+    let l = at-4 .loop in
+    (omega arith, rw (l .inv .1, pair-sound-says) (all-step (placeSound (a .plan) (v .«kept_ballots») (v .«kept_stamps»)) (l .at)))
 
 returns : tie.Need-returns Inv-loop μ-loop
 returns c =
-    let a = c .before .before .before .before .before .args in let v = a .x .volatile in
+    let a = c .before .before .before .before .before .args in
+    let v = a .x .volatile in
     let l = c .before .loop in let e : l .at ≡ 256 = omega arith in
     l .inv .1 ∙ ap (placesSound (a .plan) (v .«kept_ballots») (v .«kept_stamps»)) e ∙ kept-is (a .plan) (a .x)
 

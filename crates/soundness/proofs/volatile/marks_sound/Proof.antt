@@ -42,12 +42,15 @@ loop-less c = search needs
 loop-again : tie.Need-loop-again Inv-loop μ-loop
 unfolding marksBelow
 loop-again c =
-    let a = c .before .before .before .before .before .args in let l = c .before .before .loop in
-    (omega arith, rw (l .inv .1, c .job-marks-sound .ensures) (all-step (λ (j : ℕ). jobMarksSound (a .plan) j (getD (a .x .volatile .marks) j 0)) (l .j)))
+    let job-marks-sound-says = c .job-marks-sound .ensures in
+    let a = c .before .before .before .before .before .args in
+    let l = c .before .before .loop in
+    (omega arith, rw (l .inv .1, job-marks-sound-says) (all-step (λ (j : ℕ). jobMarksSound (a .plan) j (getD (a .x .volatile .marks) j 0)) (l .j)))
 
 returns : tie.Need-returns Inv-loop μ-loop
 returns c =
-    let a = c .before .before .before .before .args in let l = c .before .loop in let e : l .j ≡ 64 = omega arith in
+    let a = c .before .before .before .before .args in
+    let l = c .before .loop in let e : l .j ≡ 64 = omega arith in
     l .inv .1 ∙ ap (marksBelow (a .plan) (a .x .volatile .marks)) e ∙ marks-is (a .plan) (a .x)
 
 pub marks-sound-spec : {M : Type 1} → statement M

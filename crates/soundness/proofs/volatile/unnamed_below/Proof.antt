@@ -39,11 +39,21 @@ loop-less c = search needs
 loop-again : tie.Need-loop-again Inv-loop μ-loop
 unfolding unnamedBelow
 loop-again c =
-    let a = c .before .before .before .before .args in let l = c .before .before .before .loop in
-    (omega arith, l .inv .1, rw (l .inv .2, c .before .named .ensures, c .marks-in .ensures) (all-step (λ (d : ℕ). names (a .plan) (a .job) (district d) || eqb (marksIn (a .plan) (a .marks) (district d)) 0) (l .d)))
+    let marks-in-says = c .marks-in .ensures in
+    let named-says = c .before .named .ensures in
+    let a = c .before .before .before .before .args in
+    let l = c .before .before .before .loop in (
+      omega arith,
+      l .inv .1,
+      rw
+          (l .inv .2, named-says, marks-in-says)
+          (all-step (λ (d : ℕ). names (a .plan) (a .job) (district d) || eqb (marksIn (a .plan) (a .marks) (district d)) 0) (l .d)),
+    )
 
 returns : tie.Need-returns Inv-loop μ-loop
-returns c = let a = c .before .before .args in let l = c .before .loop in let e : l .d ≡ a .plan .districts = omega arith in l .inv .2 ∙ ap (unnamedBelow (a .plan) (a .job) (a .marks)) e
+returns c =
+    let a = c .before .before .args in
+    let l = c .before .loop in let e : l .d ≡ a .plan .districts = omega arith in l .inv .2 ∙ ap (unnamedBelow (a .plan) (a .job) (a .marks)) e
 
 pub unnamed-below-spec : {M : Type 1} → statement M
 unnamed-below-spec =

@@ -6,23 +6,16 @@ use borrow.Author.Needs.{needs}
 use Rattle.soundness.proofs.volatile.vote_sound.Statement.{statement}
 use Rattle.soundness.proofs.volatile.vote_sound.Tie as tie
 
-home-of-requires : tie.Need-home-of-requires
-home-of-requires c κs = search needs
-
-newleader-ack-obeys-requires : tie.Need-newleader-ack-obeys-requires
-newleader-ack-obeys-requires c κs = search needs
-
-spare-rows-requires : tie.Need-spare-rows-requires
-spare-rows-requires c κs = search needs
-
 returns : tie.Need-returns
 unfolding voteSound heldSound paperOf
 returns c =
-    let held = c .before .before .before .before .before .before .before .before .before .if1 .taken in
-    rw (c .before .newleader-ack-obeys .ensures, c .spare-rows .ensures, c .before .before .home-of .ensures) (sym (pick-true _ _ held))
-
-is-unvoted-requires : tie.Need-is-unvoted-requires
-is-unvoted-requires c κs = search needs
+    let spare-rows-says = c .spare-rows .ensures in
+    let newleader-ack-obeys-says = c .before .newleader-ack-obeys .ensures in
+    let at-2 = c .before .before in
+    let home-of-says = at-2 .home-of .ensures in
+    let at-8 = at-2 .before .before .before .before .before .before in
+    let held = at-8 .before .if1 .taken in
+    rw (newleader-ack-obeys-says, spare-rows-says, home-of-says) (sym (pick-true _ _ held))
 
 returns-2 : tie.Need-returns-2
 unfolding voteSound
@@ -32,9 +25,9 @@ pub vote-sound-spec : {M : Type 1} → statement M
 vote-sound-spec =
     tie.close
     (tie.spec
-    home-of-requires
-    newleader-ack-obeys-requires
-    spare-rows-requires
+    (λ c κs. search needs)
+    (λ c κs. search needs)
+    (λ c κs. search needs)
     returns
-    is-unvoted-requires
+    (λ c κs. search needs)
     returns-2)

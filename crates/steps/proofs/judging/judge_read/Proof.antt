@@ -35,12 +35,6 @@ took P s o w e =
     let f : o .rec ≡ parse P s = ap (λ (q : ReadOut). q .rec) (read-is-promised w) ∙ ap (λ (q : Answer). ifDone q (parse P s) noRecord) d in
     record { read = d; parsed = f; is-valid = rw f (read-says P s d .2) }
 
-enum-known-read : tie.Need-enum-known-read
-enum-known-read c = search needs
-
-enum-told : tie.Need-enum-told
-enum-told c = search needs
-
 judge-record-requires : tie.Need-judge-record-requires
 judge-record-requires c κs =
     let a = c .before .before in
@@ -52,9 +46,23 @@ returns c = λ s w.
     judging-unread (a .args .plan) (a .args .x) s (a .pre .0) _ (a .args .r) (answer-is w (c .before .read .given .1))
 
 returns-2 : tie.Need-returns-2
-returns-2 c = λ s w.
+returns-2 c =
+    let judge-record-result = c .judge-record .result in
+    let judge-record-says = c .judge-record .ensures in
+    λ s w.
     let a = c .before .before .before in let t = took (a .args .plan) s _ w (c .before .enum-told .given .1) in
-    judging-taken (a .args .plan) (a .args .x) s (a .pre .0) (c .judge-record .result) (a .args .r) (owned-lengths (a .args .x) _ (a .good .1 .0 .1 .1)) (t .read) (t .parsed) (t .is-valid) (c .judge-record .ensures)
+    judging-taken
+    (a .args .plan)
+    (a .args .x)
+    s
+    (a .pre .0)
+    (judge-record-result)
+    (a .args .r)
+    (owned-lengths (a .args .x) _ (a .good .1 .0 .1 .1))
+    (t .read)
+    (t .parsed)
+    (t .is-valid)
+    (judge-record-says)
 
 pub judge-read-spec : {M : Type 1} → statement M
-judge-read-spec = tie.close (tie.spec enum-known-read enum-told judge-record-requires returns returns-2)
+judge-read-spec = tie.close (tie.spec (λ c. search needs) (λ c. search needs) judge-record-requires returns returns-2)

@@ -8,15 +8,6 @@ use borrow.Author.Needs.{needs}
 use Rattle.writer.proofs.put.put_ballot.Statement.{statement}
 use Rattle.writer.proofs.put.put_ballot.Tie as tie
 
-cast-t : tie.Need-cast-t
-cast-t c = search needs
-
-slice-write-t : tie.Need-slice-write-t
-slice-write-t c = search needs
-
-cast-t-2 : tie.Need-cast-t-2
-cast-t-2 c = search needs
-
 slice-write-t-2 : tie.Need-slice-write-t-2
 slice-write-t-2 c = simp length-set (omega arith)
 
@@ -33,4 +24,4 @@ returns c = (refl, onto-sets (ballots .enc (c .args .b)) (c .args .t .now) (c .p
 pub put-ballot-spec : {M : Type 1} → statement M
 put-ballot-spec =
     tie.close
-    (tie.spec cast-t slice-write-t cast-t-2 slice-write-t-2 slice-write-t-3 same-length returns)
+    (tie.spec (λ c. search needs) (λ c. search needs) (λ c. search needs) slice-write-t-2 slice-write-t-3 same-length returns)

@@ -14,7 +14,8 @@ use Rattle.writer.proofs.put.put_ballots.Statement.{statement}
 use Rattle.writer.proofs.put.put_ballots.Tie as tie
 
 abbrev Inv-loop : tie.InvT-loop
-Inv-loop t₀ n l used₀ i₀ t used i = (i ≤ n) × (used ≡ 1 + i * 3) × (1 + n * 3 ≤ length t) × (length t ≡ length t₀) × (t ≡ onto (section n (encRow ballots (take i l))) t₀)
+Inv-loop t₀ n l used₀ i₀ t used i =
+    (i ≤ n) × (used ≡ 1 + i * 3) × (1 + n * 3 ≤ length t) × (length t ≡ length t₀) × (t ≡ onto (section n (encRow ballots (take i l))) t₀)
 
 abbrev μ-loop : tie.MeasureT-loop
 μ-loop t₀ n l used₀ i₀ t used i = n - i
@@ -23,7 +24,10 @@ slice-write-t : tie.Need-slice-write-t Inv-loop μ-loop
 slice-write-t c = search needs
 
 loop-holds : tie.Need-loop-holds Inv-loop μ-loop
-loop-holds c = let a = c .before .args in (search needs, search needs, rw length-set (c .before .pre .1), refl, count-start (a .n) (a .t .now) (omega (arith, c .before .pre .1)))
+loop-holds c =
+    let a = c .before .args in
+    let asked = c .before .pre in
+    (search needs, search needs, rw length-set (asked .1), refl, count-start (a .n) (a .t .now) (omega (arith, asked .1)))
 
 cast-at : tie.Need-cast-at Inv-loop μ-loop
 cast-at c = search needs
@@ -58,9 +62,28 @@ loop-less c = search needs
 loop-again : tie.Need-loop-again Inv-loop μ-loop
 unfolding ballots
 loop-again c =
-    let a = c .before .before .before .before .before .before .before .before .args in let l = c .before .before .before .before .before .before .loop in let q = c .before .before .put-ballot in
+    let at-6 = c .before .before .before .before .before .before in
+    let a = at-6 .before .before .args in
+    let asked = at-6 .before .before .pre in
+    let l = at-6 .loop in let q = c .before .before .put-ballot in
     let long : length (a .t2) ≡ 4 = search needs in
-    let s = section-turn ballots (a .n) (a .t2) (l .i) noBallot (set (a .t .now) 0 (a .n)) (l .t) (q .last .0) (l .used) (q .result) (omega (arith, long, c .before .before .before .before .before .before .before .before .pre)) (l .inv .1) (q .ensures .0) (l .inv .4) (q .ensures .1) in
+    let s =
+    section-turn
+    ballots
+    (a .n)
+    (a .t2)
+    (l .i)
+    noBallot
+    (set (a .t .now) 0 (a .n))
+    (l .t)
+    (q .last .0)
+    (l .used)
+    (q .result)
+    (omega (arith, long, asked))
+    (l .inv .1)
+    (q .ensures .0)
+    (l .inv .4)
+    (q .ensures .1) in
     let g = c .before .t .given .1 in
     (omega arith, s .0, rw g (l .inv .2), g ∙ l .inv .3, s .1)
 

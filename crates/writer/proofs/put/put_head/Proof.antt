@@ -8,9 +8,6 @@ use borrow.Author.Needs.{needs}
 use Rattle.writer.proofs.put.put_head.Statement.{statement}
 use Rattle.writer.proofs.put.put_head.Tie as tie
 
-slice-write-t : tie.Need-slice-write-t
-slice-write-t c = search needs
-
 slice-write-t-2 : tie.Need-slice-write-t-2
 slice-write-t-2 c = simp length-set (omega arith)
 
@@ -34,7 +31,7 @@ pub put-head-spec : {M : Type 1} → statement M
 put-head-spec =
     tie.close
     (tie.spec
-    slice-write-t
+    (λ c. search needs)
     slice-write-t-2
     slice-write-t-3
     slice-write-t-4

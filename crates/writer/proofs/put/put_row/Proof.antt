@@ -10,64 +10,65 @@ use borrow.Author.Needs.{needs}
 use Rattle.writer.proofs.put.put_row.Statement.{statement}
 use Rattle.writer.proofs.put.put_row.Tie as tie
 
-slice-write-t : tie.Need-slice-write-t
-slice-write-t c = search needs
-
 sub-put-stamp : tie.Need-sub-put-stamp
 sub-put-stamp c = simp length-set (omega arith)
 
 part-put-stamp-start : tie.Need-part-put-stamp-start
 part-put-stamp-start c = simp length-set (omega arith)
 
-part-put-stamp-end : tie.Need-part-put-stamp-end
-part-put-stamp-end c = search needs
-
 put-stamp-requires : tie.Need-put-stamp-requires
-put-stamp-requires c κs = rw (length-take, length-drop, length-set) (omega (arith, c .before .before .before .before .pre))
-
-add-at : tie.Need-add-at
-add-at c = search needs
+put-stamp-requires c κs =
+    let asked = c .before .before .before .before .pre in
+    rw (length-take, length-drop, length-set) (omega (arith, asked))
 
 sub-put-stamp-2 : tie.Need-sub-put-stamp-2
-sub-put-stamp-2 c = rw (c .before .t .given .1, length-set) (omega (arith, c .before .before .put-stamp .ensures .0, c .before .before .before .before .before .before .before .pre))
+sub-put-stamp-2 c =
+    let at-2 = c .before .before in
+    let put-stamp-says = at-2 .put-stamp .ensures in
+    let asked = at-2 .before .before .before .before .before .pre in
+    rw (c .before .t .given .1, length-set) (omega (arith, put-stamp-says .0, asked))
 
 part-put-stamp-start-2 : tie.Need-part-put-stamp-start-2
 part-put-stamp-start-2 c = sub-put-stamp-2 c
 
-part-put-stamp-end-2 : tie.Need-part-put-stamp-end-2
-part-put-stamp-end-2 c = search needs
-
 put-stamp-requires-2 : tie.Need-put-stamp-requires-2
-put-stamp-requires-2 c κs = rw (length-take, length-drop, c .before .before .t .given .1, length-set) (omega (arith, c .before .before .before .put-stamp .ensures .0, c .before .before .before .before .before .before .before .before .pre))
-
-add-result : tie.Need-add-result
-add-result c = search needs
+put-stamp-requires-2 c κs =
+    let at-3 = c .before .before .before in
+    let put-stamp-says = at-3 .put-stamp .ensures in
+    let asked = at-3 .before .before .before .before .before .pre in
+    rw (length-take, length-drop, c .before .before .t .given .1, length-set) (omega (arith, put-stamp-says .0, asked))
 
 same-length : tie.Need-same-length
-same-length c = let a = c .before .before .before .before .before .before .before .before .before .before .before .args in c .before .t2 .given .1 ∙ c .before .before .before .before .before .t .given .1 ∙ length-set (a .t .now) 0 (a .row .phase)
+same-length c =
+    let at-5 = c .before .before .before .before .before in
+    let a = at-5 .before .before .before .before .before .before .args in
+    c .before .t2 .given .1 ∙ at-5 .t .given .1 ∙ length-set (a .t .now) 0 (a .row .phase)
 
 returns : tie.Need-returns
 unfolding stamps rows
 returns c =
-    let a = c .before .before .before .before .before .before .before .before .before .before .before .args in let p = c .before .before .before .before .before .before .put-stamp in let q = c .before .before .put-stamp2 in
+    let at-6 = c .before .before .before .before .before .before in
+    let a = at-6 .before .before .before .before .before .args in
+    let asked = at-6 .before .before .before .before .before .pre in
+    let p = at-6 .put-stamp in let q = c .before .before .put-stamp2 in
     let X = a .row .phase ∷ [] in let Y = stamps .enc (a .row .local) in
-    let e = then X Y (a .t .now) _ _ 1 (p .result) refl (onto-sets X (a .t .now) (omega (arith, c .before .before .before .before .before .before .before .before .before .before .before .pre))) (p .ensures .0) (p .ensures .1) in
+    let e = then X Y (a .t .now) _ _ 1 (p .result) refl (onto-sets X (a .t .now) (omega (arith, asked))) (p .ensures .0) (p .ensures .1) in
     then (X ++ Y) (stamps .enc (a .row .global)) (a .t .now) _ _ (1 + p .result) (q .result) (e .0) (e .1) (q .ensures .0) (q .ensures .1)
 
 pub put-row-spec : {M : Type 1} → statement M
 put-row-spec =
     tie.close
     (tie.spec
-    slice-write-t
+    (λ c. search needs)
     sub-put-stamp
     part-put-stamp-start
-    part-put-stamp-end
+    (λ c. search needs)
     put-stamp-requires
-    add-at
+    (λ c. search needs)
     sub-put-stamp-2
     part-put-stamp-start-2
-    part-put-stamp-end-2
+    (λ c. search needs)
     put-stamp-requires-2
-    add-result
+    (λ c. search needs)
     same-length
     returns)

@@ -8,26 +8,11 @@ use borrow.Author.Needs.{needs}
 use Rattle.writer.proofs.put.put_stamp.Statement.{statement}
 use Rattle.writer.proofs.put.put_stamp.Tie as tie
 
-cast-t : tie.Need-cast-t
-cast-t c = search needs
-
-slice-write-t : tie.Need-slice-write-t
-slice-write-t c = search needs
-
-cast-t-2 : tie.Need-cast-t-2
-cast-t-2 c = search needs
-
 slice-write-t-2 : tie.Need-slice-write-t-2
 slice-write-t-2 c = simp length-set (omega arith)
 
-cast-t-3 : tie.Need-cast-t-3
-cast-t-3 c = search needs
-
 slice-write-t-3 : tie.Need-slice-write-t-3
 slice-write-t-3 c = simp length-set (omega arith)
-
-cast-t-4 : tie.Need-cast-t-4
-cast-t-4 c = search needs
 
 slice-write-t-4 : tie.Need-slice-write-t-4
 slice-write-t-4 c = simp length-set (omega arith)
@@ -46,13 +31,13 @@ pub put-stamp-spec : {M : Type 1} → statement M
 put-stamp-spec =
     tie.close
     (tie.spec
-    cast-t
-    slice-write-t
-    cast-t-2
+    (λ c. search needs)
+    (λ c. search needs)
+    (λ c. search needs)
     slice-write-t-2
-    cast-t-3
+    (λ c. search needs)
     slice-write-t-3
-    cast-t-4
+    (λ c. search needs)
     slice-write-t-4
     slice-write-t-5
     same-length
