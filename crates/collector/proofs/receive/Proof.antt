@@ -38,7 +38,7 @@ judge-read-requires c κs =
     (admitted (c .before .before) .0, (a .bytes .now, read-bytes-says))
 
 -- what the bytes come to
-judging : (c : tie.After-judge-read) → let a = c .before .before .before .before .before .before .before .before .before .args in
+judging : (c : tie.After-judge-read) → let six = c .before .before .before .before .before .before in let a = six .before .before .before .args in
     Judging (a .plan) (a .x) (a .bytes .now) (c .judge-read .result) (c .before .before .read-bytes .result .rec)
 judging c = c .judge-read .ensures _ (c .before .before .read-bytes .ensures)
 

@@ -35,9 +35,6 @@ abbrev μ-loop : tie.MeasureT-loop
 loop-holds : tie.Need-loop-holds Inv-loop μ-loop
 loop-holds c = (c .before .before .pre, omega arith, refl)
 
-mul-at : tie.Need-mul-at Inv-loop μ-loop
-mul-at c = search needs
-
 slice-read-at : tie.Need-slice-read-at Inv-loop μ-loop
 slice-read-at c = c .before .before .loop .inv .0 .some
 
@@ -47,17 +44,8 @@ cast-at c = let f = c .slice-known2 .given (c .before .before .loop .n) in omega
 next-start-requires : tie.Need-next-start-requires Inv-loop μ-loop
 next-start-requires c κs = let f = c .slice-known2 .given (c .before .before .loop .n) in omega (arith, f)
 
-add-if1 : tie.Need-add-if1 Inv-loop μ-loop
-add-if1 c = search needs
-
-same-length : tie.Need-same-length Inv-loop μ-loop
-same-length c = search needs
-
 returns : tie.Need-returns Inv-loop μ-loop
 returns c = let l = c .before .before .before .before .loop in (l .inv .0, l .inv .1)
-
-add-n : tie.Need-add-n Inv-loop μ-loop
-add-n c = search needs
 
 cast-index : tie.Need-cast-index Inv-loop μ-loop
 cast-index c =
@@ -68,9 +56,6 @@ cast-index c =
     let l = at-4 .loop in let g = goes-on (l .n) (length (l .index)) (getD (l .index) (l .n) 0) v (a .used) (if1-taken) in
     omega (arith, g .3)
 
-mul-index : tie.Need-mul-index Inv-loop μ-loop
-mul-index c = search needs
-
 slice-write-index : tie.Need-slice-write-index Inv-loop μ-loop
 slice-write-index c =
     let if1-taken = c .if1 .taken in
@@ -78,9 +63,6 @@ slice-write-index c =
     let at-4 = c .before .before .before .before in
     let a = at-4 .before .before .before .args in
     let l = at-4 .loop in goes-on (l .n) (length (l .index)) (getD (l .index) (l .n) 0) v (a .used) (if1-taken) .0
-
-loop-less : tie.Need-loop-less Inv-loop μ-loop
-loop-less c = search needs
 
 loop-again : tie.Need-loop-again Inv-loop μ-loop
 loop-again c =
@@ -95,9 +77,6 @@ loop-again c =
       length-set (l .index) (l .n + 1) v ∙ l .inv .2,
     )
 
-same-length-2 : tie.Need-same-length-2 Inv-loop μ-loop
-same-length-2 c = search needs
-
 returns-2 : tie.Need-returns-2 Inv-loop μ-loop
 returns-2 c = let l = c .before .loop in (l .inv .0, l .inv .1)
 
@@ -108,18 +87,18 @@ extend-spec =
     Inv-loop
     μ-loop
     loop-holds
-    mul-at
+    (λ c. search needs)
     slice-read-at
     cast-at
     next-start-requires
-    add-if1
-    same-length
+    (λ c. search needs)
+    (λ c. search needs)
     returns
-    add-n
+    (λ c. search needs)
     cast-index
-    mul-index
+    (λ c. search needs)
     slice-write-index
-    loop-less
+    (λ c. search needs)
     loop-again
-    same-length-2
+    (λ c. search needs)
     returns-2)

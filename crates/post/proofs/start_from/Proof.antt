@@ -27,21 +27,13 @@ returns : tie.Need-returns Inv-loop μ-loop
 returns c =
     let if1-taken = c .if1 .taken in
     let a = c .before .before .before .before .args in
+    let if1-taken = if1-taken in
     let l = c .before .before .loop in
     let P = a .plan in let s = a .s .now in let u = a .used in let m = a .k - l .i in
     let e : l .i + m ≡ a .k = omega (arith, l .inv .0) in
     let y : l .at ≡ walkFrom P s u (l .at) m = sym (walk-stays P s u (l .at) m (if1-taken)) in
     let w : l .at ≡ walkFrom P s u (a .from) (l .i + m) = y ∙ ap (λ (z : ℕ). walkFrom P s u z m) (l .inv .1) ∙ walk-more P s u (a .from) (l .i) m in
     (w ∙ ap (walkFrom P s u (a .from)) e, omega (arith, l .inv .2, l .inv .0, l .inv .3, l .inv .4))
-
-next-start-requires : tie.Need-next-start-requires Inv-loop μ-loop
-next-start-requires c κs = search needs
-
-add-i : tie.Need-add-i Inv-loop μ-loop
-add-i c = search needs
-
-loop-less : tie.Need-loop-less Inv-loop μ-loop
-loop-less c = search needs
 
 loop-again : tie.Need-loop-again Inv-loop μ-loop
 loop-again c =
@@ -68,8 +60,8 @@ start-from-spec =
     μ-loop
     loop-holds
     returns
-    next-start-requires
-    add-i
-    loop-less
+    (λ c κs. search needs)
+    (λ c. search needs)
+    (λ c. search needs)
     loop-again
     returns-2)

@@ -12,24 +12,6 @@ Inv-loop tray₀ i₀ tray i = length tray ≡ 4200
 abbrev μ-loop : tie.MeasureT-loop
 μ-loop tray₀ i₀ tray i = 4200 - i
 
-loop-holds : tie.Need-loop-holds Inv-loop μ-loop
-loop-holds c = search needs
-
-fill-requires : tie.Need-fill-requires Inv-loop μ-loop
-fill-requires c κs = search needs
-
-array-write-tray : tie.Need-array-write-tray Inv-loop μ-loop
-array-write-tray c = search needs
-
-add-i : tie.Need-add-i Inv-loop μ-loop
-add-i c = search needs
-
-loop-less : tie.Need-loop-less Inv-loop μ-loop
-loop-less c = search needs
-
-loop-again : tie.Need-loop-again Inv-loop μ-loop
-loop-again c = search needs
-
 returns : tie.Need-returns Inv-loop μ-loop
 returns c = tt
 
@@ -39,10 +21,10 @@ filled-spec =
     (tie.spec
     Inv-loop
     μ-loop
-    loop-holds
-    fill-requires
-    array-write-tray
-    add-i
-    loop-less
-    loop-again
+    (λ c. search needs)
+    (λ c κs. search needs)
+    (λ c. search needs)
+    (λ c. search needs)
+    (λ c. search needs)
+    (λ c. search needs)
     returns)

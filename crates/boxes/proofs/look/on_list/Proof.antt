@@ -35,24 +35,10 @@ returns c =
     let if1-taken = c .if1 .taken in
     let loop-test-taken = c .before .loop-test .taken in
     let a = c .before .before .before .before .before .args in
+    let if1-taken = if1-taken in
     let l = c .before .before .loop in
     rw (l .inv .1) (jobs-end (a .x .core .list) (a .job) (l .i) (a .x .core .count)
     (omega (arith, l .inv .2, if1-taken)) (loop-test-taken))
-
-cast-at : tie.Need-cast-at Inv-loop μ-loop
-cast-at c = search needs
-
-mul-l : tie.Need-mul-l Inv-loop μ-loop
-mul-l c = search needs
-
-array-copy-out-l : tie.Need-array-copy-out-l Inv-loop μ-loop
-array-copy-out-l c = search needs
-
-add-i : tie.Need-add-i Inv-loop μ-loop
-add-i c = search needs
-
-loop-less : tie.Need-loop-less Inv-loop μ-loop
-loop-less c = search needs
 
 loop-again : tie.Need-loop-again Inv-loop μ-loop
 loop-again c =
@@ -76,10 +62,10 @@ on-list-spec =
     μ-loop
     loop-holds
     returns
-    cast-at
-    mul-l
-    array-copy-out-l
-    add-i
-    loop-less
+    (λ c. search needs)
+    (λ c. search needs)
+    (λ c. search needs)
+    (λ c. search needs)
+    (λ c. search needs)
     loop-again
     returns-2)

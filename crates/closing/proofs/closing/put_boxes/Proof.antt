@@ -36,53 +36,18 @@ Inv-loop n t₀ boxes ends₀ used₀ p₀ t ends used p =
 abbrev μ-loop : tie.MeasureT-loop
 μ-loop n t₀ boxes ends₀ used₀ p₀ t ends used p = n - p
 
-no-ends-requires : tie.Need-no-ends-requires Inv-loop μ-loop
-no-ends-requires c κs = search needs
-
 loop-holds : tie.Need-loop-holds Inv-loop μ-loop
 unfolding allFor
 loop-holds c =
     let N = withBoxes (c .before .before .before .args .night .boxes) in
     (search needs, search needs, refl, refl, sym (onto-nil _), rw (c .no-ends .ensures) (none-ended N))
 
-cast-at : tie.Need-cast-at Inv-loop μ-loop
-cast-at c = search needs
-
-mul-x : tie.Need-mul-x Inv-loop μ-loop
-mul-x c = search needs
-
-array-copy-out-x : tie.Need-array-copy-out-x Inv-loop μ-loop
-array-copy-out-x c = search needs
-
-sub-put-box : tie.Need-sub-put-box Inv-loop μ-loop
-sub-put-box c = search needs
-
-part-put-box-start : tie.Need-part-put-box-start Inv-loop μ-loop
-part-put-box-start c = search needs
-
-part-put-box-end : tie.Need-part-put-box-end Inv-loop μ-loop
-part-put-box-end c = search needs
-
-put-box-requires : tie.Need-put-box-requires Inv-loop μ-loop
-put-box-requires c κs = search needs
-
-add-used : tie.Need-add-used Inv-loop μ-loop
-add-used c = search needs
-
-with-box-requires : tie.Need-with-box-requires Inv-loop μ-loop
-with-box-requires c κs = search needs
-
-add-p : tie.Need-add-p Inv-loop μ-loop
-add-p c = search needs
-
-loop-less : tie.Need-loop-less Inv-loop μ-loop
-loop-less c = search needs
-
 loop-again : tie.Need-loop-again Inv-loop μ-loop
 unfolding boxReport boxIn
 loop-again c =
     let with-box-says = c .with-box .ensures in
     let at-6 = c .before .before .before .before .before .before in
+    let at-6 = at-6 in
     let at-7 = at-6 .before in
     let at-11 = at-7 .before .before .before .before in
     let b = at-11 in
@@ -107,9 +72,6 @@ loop-again c =
       with-box-says N (omega (arith, b .pre .0)) (sym same) (l .inv .5),
     )
 
-same-length : tie.Need-same-length Inv-loop μ-loop
-same-length c = search needs
-
 returns : tie.Need-returns Inv-loop μ-loop
 unfolding boxReport boxIn
 returns c =
@@ -128,19 +90,19 @@ put-boxes-spec =
     (tie.spec
     Inv-loop
     μ-loop
-    no-ends-requires
+    (λ c κs. search needs)
     loop-holds
-    cast-at
-    mul-x
-    array-copy-out-x
-    sub-put-box
-    part-put-box-start
-    part-put-box-end
-    put-box-requires
-    add-used
-    with-box-requires
-    add-p
-    loop-less
+    (λ c. search needs)
+    (λ c. search needs)
+    (λ c. search needs)
+    (λ c. search needs)
+    (λ c. search needs)
+    (λ c. search needs)
+    (λ c κs. search needs)
+    (λ c. search needs)
+    (λ c κs. search needs)
+    (λ c. search needs)
+    (λ c. search needs)
     loop-again
-    same-length
+    (λ c. search needs)
     returns)

@@ -32,36 +32,6 @@ loop-holds : tie.Need-loop-holds Inv-loop μ-loop
 unfolding allFor
 loop-holds c = (search needs, search needs, refl, λ night d. (refl, sym (onto-nil _)))
 
-cast-at : tie.Need-cast-at Inv-loop μ-loop
-cast-at c = search needs
-
-mul-end : tie.Need-mul-end Inv-loop μ-loop
-mul-end c = search needs
-
-array-copy-out-end : tie.Need-array-copy-out-end Inv-loop μ-loop
-array-copy-out-end c = search needs
-
-sub-put-job : tie.Need-sub-put-job Inv-loop μ-loop
-sub-put-job c = search needs
-
-part-put-job-start : tie.Need-part-put-job-start Inv-loop μ-loop
-part-put-job-start c = search needs
-
-part-put-job-end : tie.Need-part-put-job-end Inv-loop μ-loop
-part-put-job-end c = search needs
-
-put-job-requires : tie.Need-put-job-requires Inv-loop μ-loop
-put-job-requires c κs = search needs
-
-add-used : tie.Need-add-used Inv-loop μ-loop
-add-used c = search needs
-
-add-j : tie.Need-add-j Inv-loop μ-loop
-add-j c = search needs
-
-loop-less : tie.Need-loop-less Inv-loop μ-loop
-loop-less c = search needs
-
 loop-again : tie.Need-loop-again Inv-loop μ-loop
 loop-again c =
     let at-6 = c .before .before .before .before .before .before in
@@ -80,9 +50,6 @@ loop-again c =
           (i .0) (i .1) (v .0) (v .1) in
           (k .0 ∙ ap length s, k .1 ∙ ap (λ (bs : List ℕ). onto bs (a .t .now)) s),
     )
-
-same-length : tie.Need-same-length Inv-loop μ-loop
-same-length c = search needs
 
 returns : tie.Need-returns Inv-loop μ-loop
 returns c =
@@ -103,16 +70,16 @@ put-jobs-spec =
     Inv-loop
     μ-loop
     loop-holds
-    cast-at
-    mul-end
-    array-copy-out-end
-    sub-put-job
-    part-put-job-start
-    part-put-job-end
-    put-job-requires
-    add-used
-    add-j
-    loop-less
+    (λ c. search needs)
+    (λ c. search needs)
+    (λ c. search needs)
+    (λ c. search needs)
+    (λ c. search needs)
+    (λ c. search needs)
+    (λ c κs. search needs)
+    (λ c. search needs)
+    (λ c. search needs)
+    (λ c. search needs)
     loop-again
-    same-length
+    (λ c. search needs)
     returns)

@@ -22,15 +22,6 @@ loop-holds : tie.Need-loop-holds Inv-loop μ-loop
 unfolding finished allBelow
 loop-holds c = (search needs, λ night h. refl)
 
-done-in-requires : tie.Need-done-in-requires Inv-loop μ-loop
-done-in-requires c κs = search needs
-
-add-d : tie.Need-add-d Inv-loop μ-loop
-add-d c = search needs
-
-loop-less : tie.Need-loop-less Inv-loop μ-loop
-loop-less c = search needs
-
 loop-again : tie.Need-loop-again Inv-loop μ-loop
 unfolding finished sizeOf
 loop-again c =
@@ -54,4 +45,4 @@ returns c =
 pub finished-below-spec : {M : Type 1} → statement M
 finished-below-spec =
     tie.close
-    (tie.spec Inv-loop μ-loop loop-holds done-in-requires add-d loop-less loop-again returns)
+    (tie.spec Inv-loop μ-loop loop-holds (λ c κs. search needs) (λ c. search needs) (λ c. search needs) loop-again returns)

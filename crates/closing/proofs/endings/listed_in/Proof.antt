@@ -24,18 +24,6 @@ loop-holds : tie.Need-loop-holds Inv-loop μ-loop
 unfolding listedIn someBelow
 loop-holds c = (search needs, λ night j h. refl)
 
-add-p : tie.Need-add-p Inv-loop μ-loop
-add-p c = search needs
-
-has-mark-requires : tie.Need-has-mark-requires Inv-loop μ-loop
-has-mark-requires c κs = search needs
-
-add-i : tie.Need-add-i Inv-loop μ-loop
-add-i c = search needs
-
-loop-less : tie.Need-loop-less Inv-loop μ-loop
-loop-less c = search needs
-
 loop-again : tie.Need-loop-again Inv-loop μ-loop
 unfolding listedIn
 loop-again c =
@@ -63,9 +51,9 @@ listed-in-spec =
     Inv-loop
     μ-loop
     loop-holds
-    add-p
-    has-mark-requires
-    add-i
-    loop-less
+    (λ c. search needs)
+    (λ c κs. search needs)
+    (λ c. search needs)
+    (λ c. search needs)
     loop-again
     returns)

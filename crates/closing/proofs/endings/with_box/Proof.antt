@@ -19,30 +19,6 @@ loop-holds c =
     let a = c .args in
     (search needs, heard-none (a .p) (a .x) (a .ends) (search needs))
 
-cast-at : tie.Need-cast-at Inv-loop μ-loop
-cast-at c = search needs
-
-mul-end : tie.Need-mul-end Inv-loop μ-loop
-mul-end c = search needs
-
-array-copy-out-end : tie.Need-array-copy-out-end Inv-loop μ-loop
-array-copy-out-end c = search needs
-
-end-with-requires : tie.Need-end-with-requires Inv-loop μ-loop
-end-with-requires c κs = search needs
-
-mul-out : tie.Need-mul-out Inv-loop μ-loop
-mul-out c = search needs
-
-array-set-from-out : tie.Need-array-set-from-out Inv-loop μ-loop
-array-set-from-out c = search needs
-
-add-j : tie.Need-add-j Inv-loop μ-loop
-add-j c = search needs
-
-loop-less : tie.Need-loop-less Inv-loop μ-loop
-loop-less c = search needs
-
 loop-again : tie.Need-loop-again Inv-loop μ-loop
 loop-again c =
     let end-with-says = c .end-with .ensures in
@@ -64,13 +40,13 @@ with-box-spec =
     Inv-loop
     μ-loop
     loop-holds
-    cast-at
-    mul-end
-    array-copy-out-end
-    end-with-requires
-    mul-out
-    array-set-from-out
-    add-j
-    loop-less
+    (λ c. search needs)
+    (λ c. search needs)
+    (λ c. search needs)
+    (λ c κs. search needs)
+    (λ c. search needs)
+    (λ c. search needs)
+    (λ c. search needs)
+    (λ c. search needs)
     loop-again
     returns)

@@ -22,18 +22,6 @@ loop-holds : tie.Need-loop-holds Inv-loop μ-loop
 unfolding quorumBelow allBelow
 loop-holds c = (search needs, refl, refl)
 
-named-requires : tie.Need-named-requires Inv-loop μ-loop
-named-requires c κs = search needs
-
-quorum-in-requires : tie.Need-quorum-in-requires Inv-loop μ-loop
-quorum-in-requires c κs = search needs
-
-add-d : tie.Need-add-d Inv-loop μ-loop
-add-d c = search needs
-
-loop-less : tie.Need-loop-less Inv-loop μ-loop
-loop-less c = search needs
-
 loop-again : tie.Need-loop-again Inv-loop μ-loop
 unfolding quorumBelow
 loop-again c =
@@ -61,9 +49,9 @@ quorum-each-spec =
     Inv-loop
     μ-loop
     loop-holds
-    named-requires
-    quorum-in-requires
-    add-d
-    loop-less
+    (λ c κs. search needs)
+    (λ c κs. search needs)
+    (λ c. search needs)
+    (λ c. search needs)
     loop-again
     returns)

@@ -20,21 +20,6 @@ loop-holds : tie.Need-loop-holds Inv-loop μ-loop
 unfolding masksSound allBelow
 loop-holds c = (search needs, refl)
 
-cast-at : tie.Need-cast-at Inv-loop μ-loop
-cast-at c = search needs
-
-array-read-mask-sound : tie.Need-array-read-mask-sound Inv-loop μ-loop
-array-read-mask-sound c = search needs
-
-mask-sound-requires : tie.Need-mask-sound-requires Inv-loop μ-loop
-mask-sound-requires c κs = search needs
-
-add-j : tie.Need-add-j Inv-loop μ-loop
-add-j c = search needs
-
-loop-less : tie.Need-loop-less Inv-loop μ-loop
-loop-less c = search needs
-
 loop-again : tie.Need-loop-again Inv-loop μ-loop
 unfolding masksSound
 loop-again c =
@@ -53,10 +38,10 @@ masks-sound-spec =
     Inv-loop
     μ-loop
     loop-holds
-    cast-at
-    array-read-mask-sound
-    mask-sound-requires
-    add-j
-    loop-less
+    (λ c. search needs)
+    (λ c. search needs)
+    (λ c κs. search needs)
+    (λ c. search needs)
+    (λ c. search needs)
     loop-again
     returns)

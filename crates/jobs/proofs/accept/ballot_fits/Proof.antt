@@ -13,6 +13,7 @@ returns c =
     let same-ballot-says = c .same-ballot .ensures in
     let if1-taken = c .before .before .before .if1 .taken in
     let home-in-says = c .before .before .before .before .before .before .home-in .ensures in
+    let if1-taken = if1-taken in
     same-ballot-says ∙ sym (pick-true _ _ (rw (home-in-says) at (eq-eqb _ _ (if1-taken))))
 
 returns-2 : tie.Need-returns-2
@@ -22,6 +23,7 @@ returns-2 c =
     let kept-ballot-says = c .before .kept-ballot .ensures in
     let if1-left = c .before .before .if1 .left in
     let home-in-says = c .before .before .before .before .before .home-in .ensures in
+    let if1-left = if1-left in
     rw (ballot-below-says, kept-ballot-says) (sym (pick-false _ _ (rw (home-in-says) at (ne-eqb _ _ (if1-left)))))
 
 pub ballot-fits-spec : {M : Type 1} → statement M

@@ -23,21 +23,6 @@ loop-holds : tie.Need-loop-holds Inv-loop μ-loop
 unfolding keptBelow allBelow
 loop-holds c = (search needs, refl)
 
-kept-ballot-requires : tie.Need-kept-ballot-requires Inv-loop μ-loop
-kept-ballot-requires c κs = search needs
-
-named-requires : tie.Need-named-requires Inv-loop μ-loop
-named-requires c κs = search needs
-
-is-no-ballot-requires : tie.Need-is-no-ballot-requires Inv-loop μ-loop
-is-no-ballot-requires c κs = search needs
-
-add-d : tie.Need-add-d Inv-loop μ-loop
-add-d c = search needs
-
-loop-less : tie.Need-loop-less Inv-loop μ-loop
-loop-less c = search needs
-
 loop-again : tie.Need-loop-again Inv-loop μ-loop
 unfolding keptBelow
 loop-again c =
@@ -64,10 +49,10 @@ kept-below-spec =
     Inv-loop
     μ-loop
     loop-holds
-    kept-ballot-requires
-    named-requires
-    is-no-ballot-requires
-    add-d
-    loop-less
+    (λ c κs. search needs)
+    (λ c κs. search needs)
+    (λ c κs. search needs)
+    (λ c. search needs)
+    (λ c. search needs)
     loop-again
     returns)

@@ -19,21 +19,9 @@ Inv-loop plan x job n s₀ d₀ s d = (d ≤ n) × (s ≡ latestKept plan x job 
 abbrev μ-loop : tie.MeasureT-loop
 μ-loop plan x job n s₀ d₀ s d = n - d
 
-no-stamp-requires : tie.Need-no-stamp-requires Inv-loop μ-loop
-no-stamp-requires c κs = search needs
-
 loop-holds : tie.Need-loop-holds Inv-loop μ-loop
 unfolding latestKept
 loop-holds c = (search needs, c .no-stamp .ensures)
-
-later-kept-requires : tie.Need-later-kept-requires Inv-loop μ-loop
-later-kept-requires c κs = search needs
-
-add-d : tie.Need-add-d Inv-loop μ-loop
-add-d c = search needs
-
-loop-less : tie.Need-loop-less Inv-loop μ-loop
-loop-less c = search needs
 
 loop-again : tie.Need-loop-again Inv-loop μ-loop
 unfolding latestKept
@@ -60,10 +48,10 @@ latest-kept-spec =
     (tie.spec
     Inv-loop
     μ-loop
-    no-stamp-requires
+    (λ c κs. search needs)
     loop-holds
-    later-kept-requires
-    add-d
-    loop-less
+    (λ c κs. search needs)
+    (λ c. search needs)
+    (λ c. search needs)
     loop-again
     returns)

@@ -24,24 +24,6 @@ loop-holds : tie.Need-loop-holds Inv-loop μ-loop
 unfolding agreeBelow allBelow
 loop-holds c = (search needs, refl)
 
-ballot-at-requires : tie.Need-ballot-at-requires Inv-loop μ-loop
-ballot-at-requires c κs = search needs
-
-kept-ballot-requires : tie.Need-kept-ballot-requires Inv-loop μ-loop
-kept-ballot-requires c κs = search needs
-
-named-requires : tie.Need-named-requires Inv-loop μ-loop
-named-requires c κs = search needs
-
-same-ballot-requires : tie.Need-same-ballot-requires Inv-loop μ-loop
-same-ballot-requires c κs = search needs
-
-add-d : tie.Need-add-d Inv-loop μ-loop
-add-d c = search needs
-
-loop-less : tie.Need-loop-less Inv-loop μ-loop
-loop-less c = search needs
-
 loop-again : tie.Need-loop-again Inv-loop μ-loop
 unfolding agreeBelow
 loop-again c =
@@ -50,6 +32,7 @@ loop-again c =
     let kept-ballot-says = c .before .before .kept-ballot .ensures in
     let ballot-at-says = c .before .before .before .ballot-at .ensures in
     let at-5 = c .before .before .before .before .before in
+    let at-5 = at-5 in
     let a = at-5 .before .args in
     let l = at-5 .loop in (
       omega arith,
@@ -69,11 +52,11 @@ agree-below-spec =
     Inv-loop
     μ-loop
     loop-holds
-    ballot-at-requires
-    kept-ballot-requires
-    named-requires
-    same-ballot-requires
-    add-d
-    loop-less
+    (λ c κs. search needs)
+    (λ c κs. search needs)
+    (λ c κs. search needs)
+    (λ c κs. search needs)
+    (λ c. search needs)
+    (λ c. search needs)
     loop-again
     returns)

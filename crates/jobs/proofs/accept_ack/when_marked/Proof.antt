@@ -19,6 +19,7 @@ hand-out-requires c κs =
     let is-enough-says = c .before .before .before .before .is-enough .ensures in
     let a = c .before .before .before .before .before .before .args in
     let asked = c .before .before .before .before .before .before .pre in
+    let if1-taken = if1-taken in
     let y = c .before .before .commit in
     let v = pick-true (handing (handOut (a .plan) (committed (a .plan) (a .x) (a .job)))) (does (a .x) [] Nothing) (sym (is-enough-says) ∙ if1-taken) in
     (asked .0, (y .result .volatile, rw (y .ensures) (rw v at (asked .2))))

@@ -13,6 +13,7 @@ returns c =
     let same-ballot-says = c .before .before .before .before .same-ballot .ensures in
     let is-recovering-says = c .before .before .before .before .before .is-recovering .ensures in
     let at-6 = c .before .before .before .before .before .before in
+    let at-6 = at-6 in
     let named-says = at-6 .named .ensures in
     let home-in-says = at-6 .before .home-in .ensures in
     in-order-says

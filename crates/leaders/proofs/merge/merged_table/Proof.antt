@@ -19,39 +19,9 @@ Inv-loop jobs one two rows others n table₀ j₀ table j =
 abbrev μ-loop : tie.MeasureT-loop
 μ-loop jobs one two rows others n table₀ j₀ table j = n - j
 
-no-row-requires : tie.Need-no-row-requires Inv-loop μ-loop
-no-row-requires c κs = search needs
-
 loop-holds : tie.Need-loop-holds Inv-loop μ-loop
 unfolding mergedTable
 loop-holds c = (search needs, λ u v eu ru ev rv. ap (replicate 64) (c .no-row .ensures))
-
-mul-a : tie.Need-mul-a Inv-loop μ-loop
-mul-a c = search needs
-
-array-copy-out-a : tie.Need-array-copy-out-a Inv-loop μ-loop
-array-copy-out-a c = search needs
-
-mul-b : tie.Need-mul-b Inv-loop μ-loop
-mul-b c = search needs
-
-array-copy-out-b : tie.Need-array-copy-out-b Inv-loop μ-loop
-array-copy-out-b c = search needs
-
-merged-row-requires : tie.Need-merged-row-requires Inv-loop μ-loop
-merged-row-requires c κs = search needs
-
-mul-table : tie.Need-mul-table Inv-loop μ-loop
-mul-table c = search needs
-
-array-set-from-table : tie.Need-array-set-from-table Inv-loop μ-loop
-array-set-from-table c = search needs
-
-add-j : tie.Need-add-j Inv-loop μ-loop
-add-j c = search needs
-
-loop-less : tie.Need-loop-less Inv-loop μ-loop
-loop-less c = search needs
 
 loop-again : tie.Need-loop-again Inv-loop μ-loop
 unfolding voteRow
@@ -77,16 +47,16 @@ merged-table-spec =
     (tie.spec
     Inv-loop
     μ-loop
-    no-row-requires
+    (λ c κs. search needs)
     loop-holds
-    mul-a
-    array-copy-out-a
-    mul-b
-    array-copy-out-b
-    merged-row-requires
-    mul-table
-    array-set-from-table
-    add-j
-    loop-less
+    (λ c. search needs)
+    (λ c. search needs)
+    (λ c. search needs)
+    (λ c. search needs)
+    (λ c κs. search needs)
+    (λ c. search needs)
+    (λ c. search needs)
+    (λ c. search needs)
+    (λ c. search needs)
     loop-again
     returns)

@@ -51,6 +51,7 @@ returns-2 c =
     let if1-left = c .before .if1 .left in
     let is-quorum-says = c .before .before .is-quorum .ensures in
     let a = c .before .before .before .before .args in
+    let if1-left = if1-left in
     let v : whenVoted (a .plan) (a .x) (a .v) ≡ _ = pick-false _ _ (sym (is-quorum-says) ∙ if1-left) in
     (rw (v, encode-none (a .plan), put-vote-says), rw (v, encode-none (a .plan)) (sym (onto-nil (a .tray .now))))
 

@@ -18,27 +18,20 @@ abbrev μ-loop : tie.MeasureT-loop
 loop-holds : tie.Need-loop-holds Inv-loop μ-loop
 loop-holds c = (omega arith, omega arith)
 
-shared-slice-read-if1 : tie.Need-shared-slice-read-if1 Inv-loop μ-loop
-shared-slice-read-if1 c = search needs
-
 returns : tie.Need-returns Inv-loop μ-loop
 returns c =
     let if1-taken = c .if1 .taken in
     let given = c .before .before .before .before .args in
+    let if1-taken = if1-taken in
     let l = c .before .before .before .loop in
     let e = first-here space (given .s .now) (l .i) (omega arith) (if1-taken) in
     (omega arith, omega (arith, e))
-
-add-i : tie.Need-add-i Inv-loop μ-loop
-add-i c = search needs
-
-loop-less : tie.Need-loop-less Inv-loop μ-loop
-loop-less c = search needs
 
 loop-again : tie.Need-loop-again Inv-loop μ-loop
 loop-again c =
     let if1-left = c .if1 .left in
     let given = c .before .before .before .before .args in
+    let if1-left = if1-left in
     let l = c .before .before .before .loop in
     let e = first-on space (given .s .now) (l .i) (omega arith) (if1-left) in
     (omega arith, omega (arith, e))
@@ -56,9 +49,9 @@ first-space-spec =
     Inv-loop
     μ-loop
     loop-holds
-    shared-slice-read-if1
+    (λ c. search needs)
     returns
-    add-i
-    loop-less
+    (λ c. search needs)
+    (λ c. search needs)
     loop-again
     returns-2)

@@ -29,9 +29,6 @@ mul-v c =
     let n = number-nine (c .before .before .before .args .s .now) (c .before .before .before .pre) in
     let p : 10 ^ (c .before .loop .i) ≤ 100000000 = pow-le-pow-right {n = 10} (lit< tt) {i = c .before .loop .i} {j = 8} (omega arith) in search needs
 
-shared-slice-read-digit : tie.Need-shared-slice-read-digit Inv-loop μ-loop
-shared-slice-read-digit c = search needs
-
 digit-requires : tie.Need-digit-requires Inv-loop μ-loop
 digit-requires c κs =
     let given = c .before .before .before .before .args in
@@ -46,12 +43,6 @@ add-v c =
     let p : 10 ^ (c .before .before .before .loop .i) ≤ 100000000 =
     pow-le-pow-right {n = 10} (lit< tt) {i = c .before .before .before .loop .i} {j = 8} (omega arith) in
     search needs
-
-add-i : tie.Need-add-i Inv-loop μ-loop
-add-i c = search needs
-
-loop-less : tie.Need-loop-less Inv-loop μ-loop
-loop-less c = search needs
 
 loop-again : tie.Need-loop-again Inv-loop μ-loop
 unfolding valueOf
@@ -77,10 +68,10 @@ value-spec =
     μ-loop
     loop-holds
     mul-v
-    shared-slice-read-digit
+    (λ c. search needs)
     digit-requires
     add-v
-    add-i
-    loop-less
+    (λ c. search needs)
+    (λ c. search needs)
     loop-again
     returns)

@@ -21,36 +21,6 @@ abbrev μ-loop : tie.MeasureT-loop
 loop-holds : tie.Need-loop-holds Inv-loop μ-loop
 loop-holds c = (search needs, refl)
 
-cast-k : tie.Need-cast-k Inv-loop μ-loop
-cast-k c = search needs
-
-mul-at : tie.Need-mul-at Inv-loop μ-loop
-mul-at c = search needs
-
-sub-read-ballot : tie.Need-sub-read-ballot Inv-loop μ-loop
-sub-read-ballot c = search needs
-
-part-read-ballot-start : tie.Need-part-read-ballot-start Inv-loop μ-loop
-part-read-ballot-start c = search needs
-
-part-read-ballot-end : tie.Need-part-read-ballot-end Inv-loop μ-loop
-part-read-ballot-end c = search needs
-
-read-ballot-requires : tie.Need-read-ballot-requires Inv-loop μ-loop
-read-ballot-requires c κs = search needs
-
-mul-out : tie.Need-mul-out Inv-loop μ-loop
-mul-out c = search needs
-
-array-set-from-out : tie.Need-array-set-from-out Inv-loop μ-loop
-array-set-from-out c = search needs
-
-add-i : tie.Need-add-i Inv-loop μ-loop
-add-i c = search needs
-
-loop-less : tie.Need-loop-less Inv-loop μ-loop
-loop-less c = search needs
-
 loop-again : tie.Need-loop-again Inv-loop μ-loop
 unfolding ballots
 loop-again c =
@@ -71,15 +41,15 @@ read-ballots-spec =
     Inv-loop
     μ-loop
     loop-holds
-    cast-k
-    mul-at
-    sub-read-ballot
-    part-read-ballot-start
-    part-read-ballot-end
-    read-ballot-requires
-    mul-out
-    array-set-from-out
-    add-i
-    loop-less
+    (λ c. search needs)
+    (λ c. search needs)
+    (λ c. search needs)
+    (λ c. search needs)
+    (λ c. search needs)
+    (λ c κs. search needs)
+    (λ c. search needs)
+    (λ c. search needs)
+    (λ c. search needs)
+    (λ c. search needs)
     loop-again
     returns)

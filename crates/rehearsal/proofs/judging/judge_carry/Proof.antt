@@ -39,6 +39,8 @@ returns c =
     let refuse-says = c .refuse .ensures in
     let if1-left = c .before .if1 .left in
     let at-5 = c .before .before .before .before .before in
+    let if1-left = if1-left in
+    let at-5 = at-5 in
     let a = at-5 in let t = c .before .before .before .byte-at in let n = c .before .before .boxes-of in
     let h =
     carry-exists
@@ -60,6 +62,8 @@ returns-2 c =
     let refuse2-says = c .refuse2 .ensures in
     let if2-left = c .before .if2 .left in
     let at-6 = c .before .before .before .before .before .before in
+    let if2-left = if2-left in
+    let at-6 = at-6 in
     let a = at-6 in
     rw (refuse2-says)
     (judges-no

@@ -22,10 +22,16 @@ returns c used x s =
 returns-2 : tie.Need-returns-2
 unfolding exists isJob
 returns-2 c used x s =
-    let a = c .before .before .before .before .before in
-    let r : c .before .multicast-record .result ≡ carried (multicast (officeOf (a .args .plan)) (officeOf (a .args .plan)) (a .args .j)) =
-    c .before .multicast-record .ensures ∙ rw (c .before .before .office-of .ensures) in
-    rw (c .go .ensures)
+    let go-says = c .go .ensures in
+    let multicast-record-result = c .before .multicast-record .result in
+    let multicast-record-says = c .before .multicast-record .ensures in
+    let office-of-says = c .before .before .office-of .ensures in
+    let if1-taken = c .before .before .before .if1 .taken in
+    let at-5 = c .before .before .before .before .before in
+    let a = at-5 in
+    let r : multicast-record-result ≡ carried (multicast (officeOf (a .args .plan)) (officeOf (a .args .plan)) (a .args .j)) =
+    multicast-record-says ∙ rw (office-of-says) in
+    rw (go-says)
     (judges-go
     (goes-post
     (a .args .plan)
@@ -35,7 +41,7 @@ returns-2 c used x s =
     (a .args .j)
     _
     (a .pre)
-    (lt-ltb (a .args .j) (a .args .plan .jobs) (c .before .before .before .if1 .taken))
+    (lt-ltb (a .args .j) (a .args .plan .jobs) (if1-taken))
     (posts-sent (a .args .plan) (a .args .j) _ r)))
 
 pub judge-post-spec : {M : Type 1} → statement M

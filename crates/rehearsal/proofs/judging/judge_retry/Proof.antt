@@ -51,10 +51,13 @@ returns c used s =
 
 returns-2 : tie.Need-returns-2
 returns-2 c used s =
-    let a = c .before .before .before .before .before in
-    rw (c .refuse2 .ensures)
+    let refuse2-says = c .refuse2 .ensures in
+    let if2-left = c .before .if2 .left in
+    let at-5 = c .before .before .before .before .before in
+    let a = at-5 in
+    rw (refuse2-says)
     (judges-no _ _ (acts-no (a .args .plan) used (a .args .x) s (Retry (a .args .p) (a .args .j)) notSound (a .pre .0) (there (c .before .before) used s)
-    (retry-unsound (a .args .plan) used (a .args .x) s (sym (a .pre .1) ∙ c .before .if2 .left) (a .args .p) (a .args .j))))
+    (retry-unsound (a .args .plan) used (a .args .x) s (sym (a .pre .1) ∙ if2-left) (a .args .p) (a .args .j))))
 
 cast-decide-retry : tie.Need-cast-decide-retry
 cast-decide-retry c = let l = low (c .before) in omega (arith, l)
@@ -64,33 +67,45 @@ cast-multicast-record c = let l = low (c .before .before .before .before .before
 
 returns-3 : tie.Need-returns-3
 returns-3 c used s =
-    let a = c .before .before .before .before .before .before .before .before .before in
-    let h = sym (a .pre .1) ∙ c .before .before .before .before .before .if2 .taken in
+    let refuse3-says = c .refuse3 .ensures in
+    let decide-retry-says = c .before .before .before .before .decide-retry .ensures in
+    let if2-taken = c .before .before .before .before .before .if2 .taken in
+    let at-6 = c .before .before .before .before .before .before in
+    let at-9 = at-6 .before .before .before in
+    let a = at-9 in
+    let h = sym (a .pre .1) ∙ if2-taken in
     let v =
     retry-is
     (a .args .plan)
     (a .args .x)
     (a .args .j)
-    (sym (c .before .before .before .before .decide-retry .ensures) ∙ c .before .before .answer .given .1) in
-    rw (c .refuse3 .ensures)
+    (sym (decide-retry-says) ∙ c .before .before .answer .given .1) in
+    rw (refuse3-says)
     (judges-no
     _
     _
-    (acts-no (a .args .plan) used (a .args .x) s (Retry (a .args .p) (a .args .j)) _ (a .pre .0) (there (c .before .before .before .before .before .before) used s)
+    (acts-no (a .args .plan) used (a .args .x) s (Retry (a .args .p) (a .args .j)) _ (a .pre .0) (there (at-6) used s)
     (retry-acts (a .args .plan) used (a .args .x) s h (a .args .p) (a .args .j) ∙ v)))
 
 returns-4 : tie.Need-returns-4
 returns-4 c used s =
-    let a = c .before .before .before .before .before .before .before .before .before .before .before in
-    let h = sym (a .pre .1) ∙ c .before .before .before .before .before .before .before .if2 .taken in
+    let go-says = c .go .ensures in
+    let multicast-record-says = c .before .multicast-record .ensures in
+    let at-4 = c .before .before .before .before in
+    let decide-retry-says = at-4 .before .before .decide-retry .ensures in
+    let if2-taken = at-4 .before .before .before .if2 .taken in
+    let at-8 = at-4 .before .before .before .before in
+    let at-11 = at-8 .before .before .before in
+    let a = at-11 in
+    let h = sym (a .pre .1) ∙ if2-taken in
     let v =
     retry-is
     (a .args .plan)
     (a .args .x)
     (a .args .j)
-    (sym (c .before .before .before .before .before .before .decide-retry .ensures) ∙ c .before .before .before .before .enum-told .given .1) in
-    rw (c .go .ensures)
-    (judges-go (goes-kept (a .pre .0) (there (c .before .before .before .before .before .before .before .before) used s) (retries-sent (a .args .plan) (a .args .x) (a .args .j) _ (c .before .multicast-record .ensures)) refl
+    (sym (decide-retry-says) ∙ at-4 .enum-told .given .1) in
+    rw (go-says)
+    (judges-go (goes-kept (a .pre .0) (there (at-8) used s) (retries-sent (a .args .plan) (a .args .x) (a .args .j) _ (multicast-record-says)) refl
     (retry-acts (a .args .plan) used (a .args .x) s h (a .args .p) (a .args .j) ∙ v)
     (retry-keeps (a .args .plan) used (a .args .x) s h (a .pre .2) (a .args .p) (a .args .j))))
 

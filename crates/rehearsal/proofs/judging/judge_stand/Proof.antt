@@ -43,27 +43,39 @@ stand-record-requires c κs =
 
 returns-3 : tie.Need-returns-3
 returns-3 c used s =
-    let a = c .before .before .before .before .before .before .before .before in
-    let h = sym (a .pre .1) ∙ c .before .before .before .before .before .if2 .taken in
-    let v = stand-is (a .args .plan) (a .args .x) (sym (c .before .before .before .before .decide-stand .ensures) ∙ c .before .before .answer .given .1) in
-    rw (c .refuse3 .ensures)
+    let refuse3-says = c .refuse3 .ensures in
+    let decide-stand-says = c .before .before .before .before .decide-stand .ensures in
+    let if2-taken = c .before .before .before .before .before .if2 .taken in
+    let at-6 = c .before .before .before .before .before .before in
+    let at-8 = at-6 .before .before in
+    let a = at-8 in
+    let h = sym (a .pre .1) ∙ if2-taken in
+    let v = stand-is (a .args .plan) (a .args .x) (sym (decide-stand-says) ∙ c .before .before .answer .given .1) in
+    rw (refuse3-says)
     (judges-no
     _
     _
-    (acts-no (a .args .plan) used (a .args .x) s (Stand (a .args .p)) _ (a .pre .0) (there (c .before .before .before .before .before .before) used s)
+    (acts-no (a .args .plan) used (a .args .x) s (Stand (a .args .p)) _ (a .pre .0) (there (at-6) used s)
     (stand-acts (a .args .plan) used (a .args .x) s h (a .args .p) ∙ v)))
 
 returns-4 : tie.Need-returns-4
 returns-4 c used s =
-    let a = c .before .before .before .before .before .before .before .before .before .before in
-    let h = sym (a .pre .1) ∙ c .before .before .before .before .before .before .before .if2 .taken in
+    let go-says = c .go .ensures in
+    let stand-record-says = c .before .stand-record .ensures in
+    let at-4 = c .before .before .before .before in
+    let decide-stand-says = at-4 .before .before .decide-stand .ensures in
+    let if2-taken = at-4 .before .before .before .if2 .taken in
+    let at-8 = at-4 .before .before .before .before in
+    let at-10 = at-8 .before .before in
+    let a = at-10 in
+    let h = sym (a .pre .1) ∙ if2-taken in
     let v =
     stand-is
     (a .args .plan)
     (a .args .x)
-    (sym (c .before .before .before .before .before .before .decide-stand .ensures) ∙ c .before .before .before .before .enum-told .given .1) in
-    rw (c .go .ensures)
-    (judges-go (goes-kept (a .pre .0) (there (c .before .before .before .before .before .before .before .before) used s) (standing-sent (a .args .plan) (a .args .x) _ (c .before .stand-record .ensures)) refl
+    (sym (decide-stand-says) ∙ at-4 .enum-told .given .1) in
+    rw (go-says)
+    (judges-go (goes-kept (a .pre .0) (there (at-8) used s) (standing-sent (a .args .plan) (a .args .x) _ (stand-record-says)) refl
     (stand-acts (a .args .plan) used (a .args .x) s h (a .args .p) ∙ v) (stand-keeps (a .args .plan) used (a .args .x) s h (a .pre .2) (a .args .p))))
 
 pub judge-stand-spec : {M : Type 1} → statement M

@@ -37,29 +37,8 @@ Inv-loop boxes₀ at₀ boxes at = (at ≤ mostBoxes) × (boxes ≡ filled at)
 abbrev μ-loop : tie.MeasureT-loop
 μ-loop boxes₀ at₀ boxes at = mostBoxes - at
 
-fresh-box-requires : tie.Need-fresh-box-requires Inv-loop μ-loop
-fresh-box-requires c κs = search needs
-
 loop-holds : tie.Need-loop-holds Inv-loop μ-loop
 loop-holds c = (search needs, ap (replicate mostBoxes) (c .fresh-box .ensures))
-
-cast-t7 : tie.Need-cast-t7 Inv-loop μ-loop
-cast-t7 c = search needs
-
-fresh-box-requires-2 : tie.Need-fresh-box-requires-2 Inv-loop μ-loop
-fresh-box-requires-2 c κs = search needs
-
-mul-boxes : tie.Need-mul-boxes Inv-loop μ-loop
-mul-boxes c = search needs
-
-array-set-from-boxes : tie.Need-array-set-from-boxes Inv-loop μ-loop
-array-set-from-boxes c = search needs
-
-add-at : tie.Need-add-at Inv-loop μ-loop
-add-at c = search needs
-
-loop-less : tie.Need-loop-less Inv-loop μ-loop
-loop-less c = search needs
 
 loop-again : tie.Need-loop-again Inv-loop μ-loop
 loop-again c =
@@ -82,13 +61,13 @@ fresh-night-spec =
     (tie.spec
     Inv-loop
     μ-loop
-    fresh-box-requires
+    (λ c κs. search needs)
     loop-holds
-    cast-t7
-    fresh-box-requires-2
-    mul-boxes
-    array-set-from-boxes
-    add-at
-    loop-less
+    (λ c. search needs)
+    (λ c κs. search needs)
+    (λ c. search needs)
+    (λ c. search needs)
+    (λ c. search needs)
+    (λ c. search needs)
     loop-again
     returns)

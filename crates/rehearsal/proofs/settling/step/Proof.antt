@@ -31,6 +31,7 @@ returns : tie.Need-returns
 returns c =
     let send-only-says = c .before .before .send-only .ensures in
     let at-5 = c .before .before .before .before .before in
+    let at-5 = at-5 in
     let at-8 = at-5 .before .before .before in
     let a = at-8 in let e = at-5 .order .given .1 in
     rw e (send-only-says _ (rw e at (a .pre .1)))
@@ -39,6 +40,7 @@ returns-2 : tie.Need-returns-2
 returns-2 c =
     let send-only2-says = c .before .before .send-only2 .ensures in
     let at-5 = c .before .before .before .before .before in
+    let at-5 = at-5 in
     let at-8 = at-5 .before .before .before in
     let a = at-8 in let e = at-5 .order2 .given .1 in
     rw e (send-only2-says _ (rw e at (a .pre .1)))
@@ -47,6 +49,7 @@ returns-3 : tie.Need-returns-3
 returns-3 c =
     let send-only3-says = c .before .before .send-only3 .ensures in
     let at-5 = c .before .before .before .before .before in
+    let at-5 = at-5 in
     let at-8 = at-5 .before .before .before in
     let a = at-8 in let e = at-5 .order3 .given .1 in
     rw e (send-only3-says _ (rw e at (a .pre .1)))
@@ -62,6 +65,7 @@ returns-5 : tie.Need-returns-5
 returns-5 c =
     let act-says = c .before .before .act .ensures in
     let at-5 = c .before .before .before .before .before in
+    let at-5 = at-5 in
     let e = at-5 .order5 .given .1 in rw e (act-says)
 
 pub step-spec : {M : Type 1} → statement M

@@ -23,30 +23,6 @@ loop-holds : tie.Need-loop-holds Inv-loop μ-loop
 unfolding jobsText allFor
 loop-holds c = (search needs, search needs, refl, refl, sym (onto-nil _))
 
-array-read-put-item : tie.Need-array-read-put-item Inv-loop μ-loop
-array-read-put-item c = search needs
-
-sub-put-item : tie.Need-sub-put-item Inv-loop μ-loop
-sub-put-item c = search needs
-
-part-put-item-start : tie.Need-part-put-item-start Inv-loop μ-loop
-part-put-item-start c = search needs
-
-part-put-item-end : tie.Need-part-put-item-end Inv-loop μ-loop
-part-put-item-end c = search needs
-
-put-item-requires : tie.Need-put-item-requires Inv-loop μ-loop
-put-item-requires c κs = search needs
-
-add-used : tie.Need-add-used Inv-loop μ-loop
-add-used c = search needs
-
-add-i : tie.Need-add-i Inv-loop μ-loop
-add-i c = search needs
-
-loop-less : tie.Need-loop-less Inv-loop μ-loop
-loop-less c = search needs
-
 loop-again : tie.Need-loop-again Inv-loop μ-loop
 unfolding jobsText
 loop-again c =
@@ -70,9 +46,6 @@ loop-again c =
     (q .ensures .2) in
     (omega arith, omega (arith, q .ensures .0), c .before .t .given .1 ∙ l .inv .2, k .0 ∙ ap length s, k .1 ∙ ap (λ (bs : List ℕ). onto bs (a .t .now)) s)
 
-same-length : tie.Need-same-length Inv-loop μ-loop
-same-length c = search needs
-
 returns : tie.Need-returns Inv-loop μ-loop
 returns c =
     let a = c .before .before .before .args in
@@ -87,14 +60,14 @@ put-jobs-spec =
     Inv-loop
     μ-loop
     loop-holds
-    array-read-put-item
-    sub-put-item
-    part-put-item-start
-    part-put-item-end
-    put-item-requires
-    add-used
-    add-i
-    loop-less
+    (λ c. search needs)
+    (λ c. search needs)
+    (λ c. search needs)
+    (λ c. search needs)
+    (λ c κs. search needs)
+    (λ c. search needs)
+    (λ c. search needs)
+    (λ c. search needs)
     loop-again
-    same-length
+    (λ c. search needs)
     returns)

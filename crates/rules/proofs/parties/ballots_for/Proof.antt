@@ -19,15 +19,6 @@ loop-holds : tie.Need-loop-holds Inv-loop μ-loop
 unfolding ballotsFor allBelow
 loop-holds c = (search needs, refl)
 
-ballot-for-requires : tie.Need-ballot-for-requires Inv-loop μ-loop
-ballot-for-requires c κs = search needs
-
-add-d : tie.Need-add-d Inv-loop μ-loop
-add-d c = search needs
-
-loop-less : tie.Need-loop-less Inv-loop μ-loop
-loop-less c = search needs
-
 loop-again : tie.Need-loop-again Inv-loop μ-loop
 unfolding ballotsFor
 loop-again c =
@@ -42,4 +33,4 @@ returns c =
 pub ballots-for-spec : {M : Type 1} → statement M
 ballots-for-spec =
     tie.close
-    (tie.spec Inv-loop μ-loop loop-holds ballot-for-requires add-d loop-less loop-again returns)
+    (tie.spec Inv-loop μ-loop loop-holds (λ c κs. search needs) (λ c. search needs) (λ c. search needs) loop-again returns)

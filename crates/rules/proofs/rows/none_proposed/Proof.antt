@@ -29,21 +29,6 @@ returns c =
     let a = c .before .before .before .args in let l = c .before .before .loop in
     l .inv .1 ∙ proposed-end (a .t1) (l .j) (a .n) (omega (arith, l .inv .2, c .if1 .taken)) (l .inv .0)
 
-cast-at : tie.Need-cast-at Inv-loop μ-loop
-cast-at c = search needs
-
-mul-row : tie.Need-mul-row Inv-loop μ-loop
-mul-row c = search needs
-
-array-copy-out-row : tie.Need-array-copy-out-row Inv-loop μ-loop
-array-copy-out-row c = search needs
-
-add-j : tie.Need-add-j Inv-loop μ-loop
-add-j c = search needs
-
-loop-less : tie.Need-loop-less Inv-loop μ-loop
-loop-less c = search needs
-
 loop-again : tie.Need-loop-again Inv-loop μ-loop
 unfolding noneProposed
 loop-again c =
@@ -65,10 +50,10 @@ none-proposed-spec =
     μ-loop
     loop-holds
     returns
-    cast-at
-    mul-row
-    array-copy-out-row
-    add-j
-    loop-less
+    (λ c. search needs)
+    (λ c. search needs)
+    (λ c. search needs)
+    (λ c. search needs)
+    (λ c. search needs)
     loop-again
     returns-2)

@@ -27,24 +27,6 @@ returns c =
     let a = c .before .before .before .args in let l = c .before .before .loop in
     l .inv .1 ∙ rows-end (a .plan) (a .d) (a .t3) (l .j) (a .n) (omega (arith, l .inv .2, c .if1 .taken)) (l .inv .0)
 
-cast-at : tie.Need-cast-at Inv-loop μ-loop
-cast-at c = search needs
-
-mul-row : tie.Need-mul-row Inv-loop μ-loop
-mul-row c = search needs
-
-array-copy-out-row : tie.Need-array-copy-out-row Inv-loop μ-loop
-array-copy-out-row c = search needs
-
-row-sound-requires : tie.Need-row-sound-requires Inv-loop μ-loop
-row-sound-requires c κs = search needs
-
-add-j : tie.Need-add-j Inv-loop μ-loop
-add-j c = search needs
-
-loop-less : tie.Need-loop-less Inv-loop μ-loop
-loop-less c = search needs
-
 loop-again : tie.Need-loop-again Inv-loop μ-loop
 unfolding rowsSound
 loop-again c =
@@ -67,11 +49,11 @@ rows-sound-spec =
     μ-loop
     loop-holds
     returns
-    cast-at
-    mul-row
-    array-copy-out-row
-    row-sound-requires
-    add-j
-    loop-less
+    (λ c. search needs)
+    (λ c. search needs)
+    (λ c. search needs)
+    (λ c κs. search needs)
+    (λ c. search needs)
+    (λ c. search needs)
     loop-again
     returns-2)

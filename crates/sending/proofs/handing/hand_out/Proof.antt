@@ -42,17 +42,23 @@ more c =
 
 -- one turn with a ready job, of a box with this core
 turning : (c : tie.Else1 Inv-loop μ-loop) (v : Volatile)
-    → let a = c .before .before .before .before .before .before .before .before .args in let l = c .before .before .before .loop in
+    → let six = c .before .before .before .before .before .before in let a = six .before .before .args in let l = c .before .before .before .loop in
     Turn (a .plan) (boxOf (a .c) v) (l .i) (a .plan .jobs) (l .sent) (c .before .next-ready .result) (more c)
 turning c v =
-    let a = c .before .before .before .before .before .before .before .before .args in let l = c .before .before .before .loop in
-    let e = c .before .next-ready .ensures .0 (a .plan) (putSent (boxOf (a .c) v) (l .sent)) refl refl refl in
-    turn (a .plan) (boxOf (a .c) v) (l .i) (a .plan .jobs) (l .sent) (c .before .next-ready .result) (l .inv .5 v .0) e (c .if1 .left)
-    (c .before .before .loop-test .taken)
+    let if1-left = c .if1 .left in
+    let next-ready-says = c .before .next-ready .ensures in
+    let next-ready-result = c .before .next-ready .result in
+    let at-2 = c .before .before in
+    let loop-test-taken = at-2 .loop-test .taken in
+    let a = at-2 .before .before .before .before .before .before .args in
+    let l = c .before .before .before .loop in
+    let e = next-ready-says .0 (a .plan) (putSent (boxOf (a .c) v) (l .sent)) refl refl refl in
+    turn (a .plan) (boxOf (a .c) v) (l .i) (a .plan .jobs) (l .sent) (next-ready-result) (l .inv .5 v .0) e (if1-left)
+    (loop-test-taken)
 
 -- and its bytes fit
 fitting : (c : tie.Else1 Inv-loop μ-loop)
-    → let a = c .before .before .before .before .before .before .before .before .args in
+    → let six = c .before .before .before .before .before .before in let a = six .before .before .args in
     c .before .before .before .loop .used + length (encodeAll (a .plan) (more c)) ≤ length (a .t .now)
 fitting c =
     let at-6 = c .before .before .before .before .before .before in
@@ -68,9 +74,6 @@ low (inr l) h k = omega arith
 low-job : (c : tie.Else1 Inv-loop μ-loop) → c .before .next-ready .result < 64
 low-job c = low (c .before .next-ready .ensures .1) (c .if1 .left) (c .before .before .before .loop .inv .1)
 
-cast-n : tie.Need-cast-n Inv-loop μ-loop
-cast-n c = search needs
-
 loop-holds : tie.Need-loop-holds Inv-loop μ-loop
 loop-holds c =
     let a = c .before .before .before .before .args in
@@ -84,9 +87,6 @@ loop-holds c =
       λ v. let z = turn-none (a .plan) (boxOf (a .c) v) in let e = encode-none (a .plan) in
           (rw z, rw (z, e), rw z, rw (z, e) (sym (onto-nil (a .t .now)))),
     )
-
-next-ready-requires : tie.Need-next-ready-requires Inv-loop μ-loop
-next-ready-requires c κs = search needs
 
 same-length : tie.Need-same-length Inv-loop μ-loop
 same-length c = c .before .before .before .loop .inv .2
@@ -107,23 +107,11 @@ returns c =
     sym (ap (handTurns (a .plan) x) s) ∙ turns-stay (a .plan) x (l .i) (a .plan .jobs - l .i) e in
     (rw z (q .0), rw z (q .1), rw z (q .2), rw z (q .3))
 
-cast-at : tie.Need-cast-at Inv-loop μ-loop
-cast-at c = search needs
-
 mul-row : tie.Need-mul-row Inv-loop μ-loop
 mul-row c = let l = low-job c in search needs
 
 array-copy-out-row : tie.Need-array-copy-out-row Inv-loop μ-loop
 array-copy-out-row c = low-job c
-
-sub-hand-job : tie.Need-sub-hand-job Inv-loop μ-loop
-sub-hand-job c = search needs
-
-part-hand-job-start : tie.Need-part-hand-job-start Inv-loop μ-loop
-part-hand-job-start c = search needs
-
-part-hand-job-end : tie.Need-part-hand-job-end Inv-loop μ-loop
-part-hand-job-end c = search needs
 
 hand-job-requires : tie.Need-hand-job-requires Inv-loop μ-loop
 hand-job-requires c κs =
@@ -137,11 +125,9 @@ hand-job-requires c κs =
 
 add-used : tie.Need-add-used Inv-loop μ-loop
 add-used c =
-    let f = fitting (c .before .before .before .before .before .before .before .before) in
+    let at-6 = c .before .before .before .before .before .before in
+    let f = fitting (at-6 .before .before) in
     omega (arith, f, c .before .before .before .hand-job .ensures .0)
-
-add-records : tie.Need-add-records Inv-loop μ-loop
-add-records c = search needs
 
 array-write-sent : tie.Need-array-write-sent Inv-loop μ-loop
 array-write-sent c =
@@ -149,18 +135,12 @@ array-write-sent c =
     let at-9 = at-6 .before .before .before in
     low-job (at-9)
 
-add-i : tie.Need-add-i Inv-loop μ-loop
-add-i c = search needs
-
-loop-less : tie.Need-loop-less Inv-loop μ-loop
-loop-less c = search needs
-
 loop-again : tie.Need-loop-again Inv-loop μ-loop
 loop-again c =
     let at-4 = c .before .before .before .before in
     let at-9 = at-4 .before .before .before .before .before in
     let d = at-9 in
-    let a = d .before .before .before .before .before .before .before .before .args in
+    let six = d .before .before .before .before .before .before in let a = six .before .before .args in
     let l = d .before .before .before .loop in let q = at-4 .hand-job in let f = fitting d in (
       omega (arith, d .before .before .loop-test .taken),
       l .inv .1,
@@ -197,23 +177,23 @@ hand-out-spec =
     (tie.spec
     Inv-loop
     μ-loop
-    cast-n
+    (λ c. search needs)
     loop-holds
-    next-ready-requires
+    (λ c κs. search needs)
     same-length
     returns
-    cast-at
+    (λ c. search needs)
     mul-row
     array-copy-out-row
-    sub-hand-job
-    part-hand-job-start
-    part-hand-job-end
+    (λ c. search needs)
+    (λ c. search needs)
+    (λ c. search needs)
     hand-job-requires
     add-used
-    add-records
+    (λ c. search needs)
     array-write-sent
-    add-i
-    loop-less
+    (λ c. search needs)
+    (λ c. search needs)
     loop-again
     same-length-2
     returns-2)

@@ -16,43 +16,17 @@ Inv-loop n table sent best₀ least₀ j₀ best least j = (j ≤ n) × (n ≤ 6
 abbrev μ-loop : tie.MeasureT-loop
 μ-loop n table sent best₀ least₀ j₀ best least j = n - j
 
-no-stamp-requires : tie.Need-no-stamp-requires Inv-loop μ-loop
-no-stamp-requires c κs = search needs
-
 loop-holds : tie.Need-loop-holds Inv-loop μ-loop
 loop-holds c =
     let a = c .before .args in let e : length (a .t1) ≡ 64 = search needs in
     (search needs, c .before .pre, rw (c .no-stamp .ensures) (best-none (a .t1) (a .t2) (a .n) e))
-
-mul-row : tie.Need-mul-row Inv-loop μ-loop
-mul-row c = search needs
-
-array-copy-out-row : tie.Need-array-copy-out-row Inv-loop μ-loop
-array-copy-out-row c = search needs
-
-array-read-waits : tie.Need-array-read-waits Inv-loop μ-loop
-array-read-waits c = search needs
-
-stamp-below-requires : tie.Need-stamp-below-requires Inv-loop μ-loop
-stamp-below-requires c κs = search needs
-
-open-above-requires : tie.Need-open-above-requires Inv-loop μ-loop
-open-above-requires c κs = search needs
-
-cast-best : tie.Need-cast-best Inv-loop μ-loop
-cast-best c = search needs
-
-add-j : tie.Need-add-j Inv-loop μ-loop
-add-j c = search needs
-
-loop-less : tie.Need-loop-less Inv-loop μ-loop
-loop-less c = search needs
 
 -- the job was taken, or not all open jobs are above it, or it does not go before the best
 loop-again : tie.Need-loop-again Inv-loop μ-loop
 loop-again c =
     let e = c .before .stamp-below .ensures in
     let at-6 = c .before .before .before .before .before .before in
+    let at-6 = at-6 in
     let a = at-6 .before .before .args in
     let l = at-6 .loop in let b = l .inv .2 in (
       omega arith,
@@ -77,15 +51,15 @@ next-ready-spec =
     (tie.spec
     Inv-loop
     μ-loop
-    no-stamp-requires
+    (λ c κs. search needs)
     loop-holds
-    mul-row
-    array-copy-out-row
-    array-read-waits
-    stamp-below-requires
-    open-above-requires
-    cast-best
-    add-j
-    loop-less
+    (λ c. search needs)
+    (λ c. search needs)
+    (λ c. search needs)
+    (λ c κs. search needs)
+    (λ c κs. search needs)
+    (λ c. search needs)
+    (λ c. search needs)
+    (λ c. search needs)
     loop-again
     returns)

@@ -31,29 +31,12 @@ loop-holds : tie.Need-loop-holds Inv-loop μ-loop
 unfolding allBelow
 loop-holds c = (search needs, refl)
 
-mul-row : tie.Need-mul-row Inv-loop μ-loop
-mul-row c = search needs
-
-array-copy-out-row : tie.Need-array-copy-out-row Inv-loop μ-loop
-array-copy-out-row c = search needs
-
-row-open-requires : tie.Need-row-open-requires Inv-loop μ-loop
-row-open-requires c κs = search needs
-
-stamp-below-requires : tie.Need-stamp-below-requires Inv-loop μ-loop
-stamp-below-requires c κs = search needs
-
-add-k : tie.Need-add-k Inv-loop μ-loop
-add-k c = search needs
-
-loop-less : tie.Need-loop-less Inv-loop μ-loop
-loop-less c = search needs
-
 loop-again : tie.Need-loop-again Inv-loop μ-loop
 loop-again c =
     let stamp-below-says = c .stamp-below .ensures in
     let row-open-says = c .before .row-open .ensures in
     let at-5 = c .before .before .before .before .before in
+    let at-5 = at-5 in
     let a = at-5 .before .args in
     let l = at-5 .loop in
     (omega arith, rw (l .inv .1, stamp-below-says, row-open-says) (all-step (above (a .t1) (a .s)) (l .k)))
@@ -71,11 +54,11 @@ open-above-spec =
     Inv-loop
     μ-loop
     loop-holds
-    mul-row
-    array-copy-out-row
-    row-open-requires
-    stamp-below-requires
-    add-k
-    loop-less
+    (λ c. search needs)
+    (λ c. search needs)
+    (λ c κs. search needs)
+    (λ c κs. search needs)
+    (λ c. search needs)
+    (λ c. search needs)
     loop-again
     returns)

@@ -35,6 +35,7 @@ meant c =
     let if1-taken = c .if1 .taken in
     let goes-to-says = c .before .goes-to .ensures in
     let a = c .before .before .before .before .before .before .args in
+    let if1-taken = if1-taken in
     let l = c .before .before .before .loop in
     sym (goes-same (a .plan) (a .r) (l .q) (boxNo (l .p)) (l .inv .10)) ∙ sym (goes-to-says) ∙ if1-taken
 
@@ -57,9 +58,6 @@ fits c =
     let k = for-room (sentTo (a .plan) (a .r)) (boxes-of-result) (l .p) (loop-test-taken) in
     rw (← bytes c) (omega (arith, k, l .inv .4, l .inv .5))
 
-boxes-of-requires : tie.Need-boxes-of-requires Inv-loop μ-loop
-boxes-of-requires c κs = search needs
-
 loop-holds : tie.Need-loop-holds Inv-loop μ-loop
 unfolding sentBytes meantBelow addressed
 loop-holds c =
@@ -67,21 +65,6 @@ loop-holds c =
     let z = for-none (sentTo (a .plan) (a .r)) in
     let most = boxes-most (a .plan) (c .before .before .pre .0) in let fit = c .before .before .pre .1 in
     (search needs, e, rw e most, refl, rw e fit, rw z, refl, search needs, rw z (sym (onto-nil (a .t .now))), omega arith, refl)
-
-cast-t11 : tie.Need-cast-t11 Inv-loop μ-loop
-cast-t11 c = search needs
-
-goes-to-requires : tie.Need-goes-to-requires Inv-loop μ-loop
-goes-to-requires c κs = search needs
-
-sub-put-record : tie.Need-sub-put-record Inv-loop μ-loop
-sub-put-record c = search needs
-
-part-put-record-start : tie.Need-part-put-record-start Inv-loop μ-loop
-part-put-record-start c = search needs
-
-part-put-record-end : tie.Need-part-put-record-end Inv-loop μ-loop
-part-put-record-end c = search needs
 
 put-record-requires : tie.Need-put-record-requires Inv-loop μ-loop
 unfolding addressed
@@ -94,15 +77,6 @@ put-record-requires c κs =
 add-used : tie.Need-add-used Inv-loop μ-loop
 unfolding addressed
 add-used c = omega (arith, fits (c .before .before .before .before), c .before .before .put-record .ensures .0)
-
-add-records : tie.Need-add-records Inv-loop μ-loop
-add-records c = search needs
-
-add-p : tie.Need-add-p Inv-loop μ-loop
-add-p c = search needs
-
-loop-less : tie.Need-loop-less Inv-loop μ-loop
-loop-less c = search needs
 
 loop-again : tie.Need-loop-again Inv-loop μ-loop
 unfolding addressed
@@ -137,9 +111,6 @@ loop-again c =
     rw (w .1, w .2, w .3, w .4, m .0, m .1) (omega arith, i .1, i .2, i .3, i .4, i .5, i .6, omega (arith, i .7), i .8, i .9, i .10))
     (c .if1 .came)
 
-same-length : tie.Need-same-length Inv-loop μ-loop
-same-length c = search needs
-
 returns : tie.Need-returns Inv-loop μ-loop
 unfolding sentBytes sentCount
 returns c =
@@ -159,18 +130,18 @@ send-spec =
     (tie.spec
     Inv-loop
     μ-loop
-    boxes-of-requires
+    (λ c κs. search needs)
     loop-holds
-    cast-t11
-    goes-to-requires
-    sub-put-record
-    part-put-record-start
-    part-put-record-end
+    (λ c. search needs)
+    (λ c κs. search needs)
+    (λ c. search needs)
+    (λ c. search needs)
+    (λ c. search needs)
     put-record-requires
     add-used
-    add-records
-    add-p
-    loop-less
+    (λ c. search needs)
+    (λ c. search needs)
+    (λ c. search needs)
     loop-again
-    same-length
+    (λ c. search needs)
     returns)

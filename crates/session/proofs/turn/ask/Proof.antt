@@ -17,6 +17,8 @@ returns : tie.Need-returns
 returns c =
     let if1-taken = c .if1 .taken in
     let at-6 = c .before .before .before .before .before .before in
+    let if1-taken = if1-taken in
+    let at-6 = at-6 in
     let at-7 = at-6 .before in
     let a = at-7 in
     let q = c .before .before .before .read-on in
@@ -32,7 +34,7 @@ add-t16 c =
     let at-6 = c .before .before .before .before .before .before in
     let at-7 = at-6 .before in
     let b = at-7 in
-    let a = b .before .before .before .before .before .before .before in
+    let six = b .before .before .before .before .before .before in let a = six .before in
     omega (arith, b .if1 .left, a .good .1 .1 .1 .0 .0)
 
 returns-2 : tie.Need-returns-2
@@ -40,12 +42,13 @@ returns-2 c =
     let no-line-says = c .no-line .ensures in
     let find-says = c .before .before .before .find .ensures in
     let at-5 = c .before .before .before .before .before in
+    let at-5 = at-5 in
     let order-of-says = at-5 .order-of .ensures in
     let at-7 = at-5 .before .before in
     let b = at-7 in
     let o = b .before .order-held in
     let q = b .before .before .before .read-on in
-    let a = b .before .before .before .before .before .before .before .args in
+    let six = b .before .before .before .before .before .before in let a = six .before .args in
     let h : q .result .at < length (a .chunk .now) = b .if1 .left in
     record {
       up = omega (arith, q .ensures .0);

@@ -33,25 +33,14 @@ loop-holds c =
     let given = c .before .args in
     (search needs, search needs, refl, λ q e. line-as (allRead act q (take (given .from) (given .chunk .now))) (given .line) e)
 
-shared-slice-read-byte : tie.Need-shared-slice-read-byte Inv-loop μ-loop
-shared-slice-read-byte c = search needs
-
 returns : tie.Need-returns Inv-loop μ-loop
 returns c =
     let if1-taken = c .if1 .taken in
     let a = c .before .before .before .before .before .args in
+    let if1-taken = if1-taken in
     let l = c .before .before .before .loop in
     let m : l .i ≤ length (a .chunk .now) = omega (arith, l .inv .1, l .inv .2) in
     (l .inv .0, m, λ h. if1-taken, l .inv .3)
-
-push-requires : tie.Need-push-requires Inv-loop μ-loop
-push-requires c κs = search needs
-
-add-i : tie.Need-add-i Inv-loop μ-loop
-add-i c = search needs
-
-loop-less : tie.Need-loop-less Inv-loop μ-loop
-loop-less c = search needs
 
 loop-again : tie.Need-loop-again Inv-loop μ-loop
 loop-again c =
@@ -93,10 +82,10 @@ read-on-spec =
     Inv-loop
     μ-loop
     loop-holds
-    shared-slice-read-byte
+    (λ c. search needs)
     returns
-    push-requires
-    add-i
-    loop-less
+    (λ c κs. search needs)
+    (λ c. search needs)
+    (λ c. search needs)
     loop-again
     returns-2)

@@ -19,50 +19,21 @@ Inv-loop plan c list home last₀ seen₀ ok₀ i₀ last seen ok i =
 abbrev μ-loop : tie.MeasureT-loop
 μ-loop plan c list home last₀ seen₀ ok₀ i₀ last seen ok i = 64 - i
 
-home-of-requires : tie.Need-home-of-requires Inv-loop μ-loop
-home-of-requires c κs = search needs
-
-array-copy-out-first : tie.Need-array-copy-out-first Inv-loop μ-loop
-array-copy-out-first c = search needs
-
 loop-holds : tie.Need-loop-holds Inv-loop μ-loop
 unfolding placesSound allBelow
 loop-holds c =
     let given = c .before .before .before .before .before .before .args in
     (search needs, refl, seen-none 256 (given .x .core .list), refl)
 
-cast-at : tie.Need-cast-at Inv-loop μ-loop
-cast-at c = search needs
-
-mul-e : tie.Need-mul-e Inv-loop μ-loop
-mul-e c = search needs
-
-array-copy-out-e : tie.Need-array-copy-out-e Inv-loop μ-loop
-array-copy-out-e c = search needs
-
-cast-job : tie.Need-cast-job Inv-loop μ-loop
-cast-job c = search needs
-
 array-read-place-sound : tie.Need-array-read-place-sound Inv-loop μ-loop
 array-read-place-sound c = search needs
-
-place-sound-requires : tie.Need-place-sound-requires Inv-loop μ-loop
-place-sound-requires c κs = search needs
-
-array-write-seen : tie.Need-array-write-seen Inv-loop μ-loop
-array-write-seen c = search needs
-
-add-i : tie.Need-add-i Inv-loop μ-loop
-add-i c = search needs
-
-loop-less : tie.Need-loop-less Inv-loop μ-loop
-loop-less c = search needs
 
 loop-again : tie.Need-loop-again Inv-loop μ-loop
 unfolding placesSound nthSound Seen
 loop-again c =
     let place-sound-says = c .before .place-sound .ensures in
     let at-6 = c .before .before .before .before .before .before in
+    let at-6 = at-6 in
     let at-9 = at-6 .before .before .before in
     let a = at-9 .before .before .before .before .args in
     let h = at-9 .home-of in
@@ -90,17 +61,17 @@ list-sound-spec =
     (tie.spec
     Inv-loop
     μ-loop
-    home-of-requires
-    array-copy-out-first
+    (λ c κs. search needs)
+    (λ c. search needs)
     loop-holds
-    cast-at
-    mul-e
-    array-copy-out-e
-    cast-job
+    (λ c. search needs)
+    (λ c. search needs)
+    (λ c. search needs)
+    (λ c. search needs)
     array-read-place-sound
-    place-sound-requires
-    array-write-seen
-    add-i
-    loop-less
+    (λ c κs. search needs)
+    (λ c. search needs)
+    (λ c. search needs)
+    (λ c. search needs)
     loop-again
     returns)

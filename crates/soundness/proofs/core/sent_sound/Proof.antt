@@ -23,21 +23,6 @@ loop-holds : tie.Need-loop-holds Inv-loop μ-loop
 unfolding allBelow
 loop-holds c = (search needs, refl)
 
-cast-at : tie.Need-cast-at Inv-loop μ-loop
-cast-at c = search needs
-
-is-job-requires : tie.Need-is-job-requires Inv-loop μ-loop
-is-job-requires c κs = search needs
-
-array-read-ok : tie.Need-array-read-ok Inv-loop μ-loop
-array-read-ok c = search needs
-
-add-j : tie.Need-add-j Inv-loop μ-loop
-add-j c = search needs
-
-loop-less : tie.Need-loop-less Inv-loop μ-loop
-loop-less c = search needs
-
 loop-again : tie.Need-loop-again Inv-loop μ-loop
 loop-again c =
     let is-job-says = c .is-job .ensures in
@@ -60,10 +45,10 @@ sent-sound-spec =
     Inv-loop
     μ-loop
     loop-holds
-    cast-at
-    is-job-requires
-    array-read-ok
-    add-j
-    loop-less
+    (λ c. search needs)
+    (λ c κs. search needs)
+    (λ c. search needs)
+    (λ c. search needs)
+    (λ c. search needs)
     loop-again
     returns)

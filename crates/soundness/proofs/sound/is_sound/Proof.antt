@@ -21,16 +21,18 @@ range-held : (c : tie.Then2)
 range-held c = range-asked (c .before) ∙ c .if2 .taken
 
 rows-asked : (c : tie.After-sent-sound)
-    → let a = c .before .before .before .before .before .before .before .args in
+    → let six = c .before .before .before .before .before .before in let a = six .before .args in
     tableSound (a .plan) (a .x) && sentSound (a .plan) (a .x) ≡ c .before .table-sound .result && c .sent-sound .result
 rows-asked c = rw (c .before .table-sound .ensures, c .sent-sound .ensures)
 
 rows-held : (c : tie.Then3)
-    → let a = c .before .before .before .before .before .before .before .before .args in tableSound (a .plan) (a .x) && sentSound (a .plan) (a .x) ≡ true
+    → let six = c .before .before .before .before .before .before in let a = six .before .before .args in tableSound (a .plan) (a .x)
+    && sentSound (a .plan) (a .x)
+    ≡ true
 rows-held c = rows-asked (c .before) ∙ c .if3 .taken
 
 kept-asked : (c : tie.After-marks-sound)
-    → let a = c .before .before .before .before .before .before .before .before .before .before .args in
+    → let six = c .before .before .before .before .before .before in let a = six .before .before .before .before .args in
     allKeptSound (a .plan) (a .x) && allMarksSound (a .plan) (a .x) ≡ c .before .kept-sound .result && c .marks-sound .result
 kept-asked c = rw (c .before .kept-sound .ensures, c .marks-sound .ensures)
 
@@ -47,6 +49,8 @@ unfolding sound boxSound
 returns-3 c =
     let if3-left = c .if3 .left in
     let at-6 = c .before .before .before .before .before .before in
+    let if3-left = if3-left in
+    let at-6 = at-6 in
     rw (plan-held (at-6), range-held (c .before .before .before), rows-asked (c .before) ∙ if3-left)
 
 returns-4 : tie.Need-returns-4
@@ -54,6 +58,8 @@ unfolding sound boxSound
 returns-4 c =
     let if4-left = c .if4 .left in
     let at-6 = c .before .before .before .before .before .before in
+    let if4-left = if4-left in
+    let at-6 = at-6 in
     let at-9 = at-6 .before .before .before in
     let p = plan-held (at-9) in
     rw (p, range-held (at-6), rows-held (c .before .before .before), kept-asked (c .before) ∙ if4-left)
@@ -65,6 +71,8 @@ returns-5 c =
     let list-sound-says = c .before .list-sound .ensures in
     let if4-taken = c .before .before .if4 .taken in
     let at-5 = c .before .before .before .before .before in
+    let if4-taken = if4-taken in
+    let at-5 = at-5 in
     let at-8 = at-5 .before .before .before in
     let at-11 = at-8 .before .before .before in
     let p = plan-held (at-11) in

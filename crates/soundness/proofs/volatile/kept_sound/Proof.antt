@@ -15,45 +15,9 @@ Inv-loop plan ballots stamps n ok₀ at₀ ok at = (at ≤ 256) × (ok ≡ place
 abbrev μ-loop : tie.MeasureT-loop
 μ-loop plan ballots stamps n ok₀ at₀ ok at = 256 - at
 
-cast-n : tie.Need-cast-n Inv-loop μ-loop
-cast-n c = search needs
-
 loop-holds : tie.Need-loop-holds Inv-loop μ-loop
 unfolding placesSound allBelow
 loop-holds c = (search needs, refl)
-
-mul-b : tie.Need-mul-b Inv-loop μ-loop
-mul-b c = search needs
-
-array-copy-out-b : tie.Need-array-copy-out-b Inv-loop μ-loop
-array-copy-out-b c = search needs
-
-mul-s : tie.Need-mul-s Inv-loop μ-loop
-mul-s c = search needs
-
-array-copy-out-s : tie.Need-array-copy-out-s Inv-loop μ-loop
-array-copy-out-s c = search needs
-
-div-job : tie.Need-div-job Inv-loop μ-loop
-div-job c = search needs
-
-cast-job : tie.Need-cast-job Inv-loop μ-loop
-cast-job c = search needs
-
-rem-t14 : tie.Need-rem-t14 Inv-loop μ-loop
-rem-t14 c = search needs
-
-cast-t21 : tie.Need-cast-t21 Inv-loop μ-loop
-cast-t21 c = search needs
-
-pair-sound-requires : tie.Need-pair-sound-requires Inv-loop μ-loop
-pair-sound-requires c κs = search needs
-
-add-at : tie.Need-add-at Inv-loop μ-loop
-add-at c = search needs
-
-loop-less : tie.Need-loop-less Inv-loop μ-loop
-loop-less c = search needs
 
 loop-again : tie.Need-loop-again Inv-loop μ-loop
 unfolding placesSound placeSound
@@ -78,18 +42,18 @@ kept-sound-spec =
     (tie.spec
     Inv-loop
     μ-loop
-    cast-n
+    (λ c. search needs)
     loop-holds
-    mul-b
-    array-copy-out-b
-    mul-s
-    array-copy-out-s
-    div-job
-    cast-job
-    rem-t14
-    cast-t21
-    pair-sound-requires
-    add-at
-    loop-less
+    (λ c. search needs)
+    (λ c. search needs)
+    (λ c. search needs)
+    (λ c. search needs)
+    (λ c. search needs)
+    (λ c. search needs)
+    (λ c. search needs)
+    (λ c. search needs)
+    (λ c κs. search needs)
+    (λ c. search needs)
+    (λ c. search needs)
     loop-again
     returns)

@@ -21,24 +21,6 @@ loop-holds : tie.Need-loop-holds Inv-loop μ-loop
 unfolding marksBelow allBelow
 loop-holds c = (search needs, refl)
 
-cast-at : tie.Need-cast-at Inv-loop μ-loop
-cast-at c = search needs
-
-mul-job-marks-sound : tie.Need-mul-job-marks-sound Inv-loop μ-loop
-mul-job-marks-sound c = search needs
-
-array-read-job-marks-sound : tie.Need-array-read-job-marks-sound Inv-loop μ-loop
-array-read-job-marks-sound c = search needs
-
-job-marks-sound-requires : tie.Need-job-marks-sound-requires Inv-loop μ-loop
-job-marks-sound-requires c κs = search needs
-
-add-j : tie.Need-add-j Inv-loop μ-loop
-add-j c = search needs
-
-loop-less : tie.Need-loop-less Inv-loop μ-loop
-loop-less c = search needs
-
 loop-again : tie.Need-loop-again Inv-loop μ-loop
 unfolding marksBelow
 loop-again c =
@@ -60,11 +42,11 @@ marks-sound-spec =
     Inv-loop
     μ-loop
     loop-holds
-    cast-at
-    mul-job-marks-sound
-    array-read-job-marks-sound
-    job-marks-sound-requires
-    add-j
-    loop-less
+    (λ c. search needs)
+    (λ c. search needs)
+    (λ c. search needs)
+    (λ c κs. search needs)
+    (λ c. search needs)
+    (λ c. search needs)
     loop-again
     returns)

@@ -108,6 +108,7 @@ returns-4 : tie.Need-returns-4
 returns-4 c =
     let do-deliver-says = c .do-deliver .ensures in
     let at-6 = c .before .before .before .before .before .before in
+    let at-6 = at-6 in
     let at-9 = at-6 .before .before .before in
     let s = at-9 in let a = s .args in let k = c .before .before .match .keys4 in
     let e = react-4 (a .plan) (a .x) (a .r) k in let d = rw (judged-4 (a .plan) (a .x) (a .r) k) at (s .pre .1) in

@@ -20,44 +20,11 @@ Inv-loop t₀ n l used₀ i₀ t used i =
 abbrev μ-loop : tie.MeasureT-loop
 μ-loop t₀ n l used₀ i₀ t used i = n - i
 
-slice-write-t : tie.Need-slice-write-t Inv-loop μ-loop
-slice-write-t c = search needs
-
 loop-holds : tie.Need-loop-holds Inv-loop μ-loop
 loop-holds c =
     let a = c .before .args in
     let asked = c .before .pre in
     (search needs, search needs, rw length-set (asked .1), refl, count-start (a .n) (a .t .now) (omega (arith, asked .1)))
-
-cast-at : tie.Need-cast-at Inv-loop μ-loop
-cast-at c = search needs
-
-mul-b : tie.Need-mul-b Inv-loop μ-loop
-mul-b c = search needs
-
-array-copy-out-b : tie.Need-array-copy-out-b Inv-loop μ-loop
-array-copy-out-b c = search needs
-
-sub-put-ballot : tie.Need-sub-put-ballot Inv-loop μ-loop
-sub-put-ballot c = search needs
-
-part-put-ballot-start : tie.Need-part-put-ballot-start Inv-loop μ-loop
-part-put-ballot-start c = search needs
-
-part-put-ballot-end : tie.Need-part-put-ballot-end Inv-loop μ-loop
-part-put-ballot-end c = search needs
-
-put-ballot-requires : tie.Need-put-ballot-requires Inv-loop μ-loop
-put-ballot-requires c κs = search needs
-
-add-used : tie.Need-add-used Inv-loop μ-loop
-add-used c = search needs
-
-add-i : tie.Need-add-i Inv-loop μ-loop
-add-i c = search needs
-
-loop-less : tie.Need-loop-less Inv-loop μ-loop
-loop-less c = search needs
 
 loop-again : tie.Need-loop-again Inv-loop μ-loop
 unfolding ballots
@@ -101,18 +68,18 @@ put-ballots-spec =
     (tie.spec
     Inv-loop
     μ-loop
-    slice-write-t
+    (λ c. search needs)
     loop-holds
-    cast-at
-    mul-b
-    array-copy-out-b
-    sub-put-ballot
-    part-put-ballot-start
-    part-put-ballot-end
-    put-ballot-requires
-    add-used
-    add-i
-    loop-less
+    (λ c. search needs)
+    (λ c. search needs)
+    (λ c. search needs)
+    (λ c. search needs)
+    (λ c. search needs)
+    (λ c. search needs)
+    (λ c κs. search needs)
+    (λ c. search needs)
+    (λ c. search needs)
+    (λ c. search needs)
     loop-again
     same-length
     returns)

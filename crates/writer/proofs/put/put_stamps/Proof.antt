@@ -20,44 +20,11 @@ Inv-loop t₀ n l used₀ i₀ t used i =
 abbrev μ-loop : tie.MeasureT-loop
 μ-loop t₀ n l used₀ i₀ t used i = n - i
 
-slice-write-t : tie.Need-slice-write-t Inv-loop μ-loop
-slice-write-t c = search needs
-
 loop-holds : tie.Need-loop-holds Inv-loop μ-loop
 loop-holds c =
     let a = c .before .args in
     let asked = c .before .pre in
     (search needs, search needs, rw length-set (asked .1), refl, count-start (a .n) (a .t .now) (omega (arith, asked .1)))
-
-cast-at : tie.Need-cast-at Inv-loop μ-loop
-cast-at c = search needs
-
-mul-s : tie.Need-mul-s Inv-loop μ-loop
-mul-s c = search needs
-
-array-copy-out-s : tie.Need-array-copy-out-s Inv-loop μ-loop
-array-copy-out-s c = search needs
-
-sub-put-stamp : tie.Need-sub-put-stamp Inv-loop μ-loop
-sub-put-stamp c = search needs
-
-part-put-stamp-start : tie.Need-part-put-stamp-start Inv-loop μ-loop
-part-put-stamp-start c = search needs
-
-part-put-stamp-end : tie.Need-part-put-stamp-end Inv-loop μ-loop
-part-put-stamp-end c = search needs
-
-put-stamp-requires : tie.Need-put-stamp-requires Inv-loop μ-loop
-put-stamp-requires c κs = search needs
-
-add-used : tie.Need-add-used Inv-loop μ-loop
-add-used c = search needs
-
-add-i : tie.Need-add-i Inv-loop μ-loop
-add-i c = search needs
-
-loop-less : tie.Need-loop-less Inv-loop μ-loop
-loop-less c = search needs
 
 loop-again : tie.Need-loop-again Inv-loop μ-loop
 unfolding stamps
@@ -101,18 +68,18 @@ put-stamps-spec =
     (tie.spec
     Inv-loop
     μ-loop
-    slice-write-t
+    (λ c. search needs)
     loop-holds
-    cast-at
-    mul-s
-    array-copy-out-s
-    sub-put-stamp
-    part-put-stamp-start
-    part-put-stamp-end
-    put-stamp-requires
-    add-used
-    add-i
-    loop-less
+    (λ c. search needs)
+    (λ c. search needs)
+    (λ c. search needs)
+    (λ c. search needs)
+    (λ c. search needs)
+    (λ c. search needs)
+    (λ c κs. search needs)
+    (λ c. search needs)
+    (λ c. search needs)
+    (λ c. search needs)
     loop-again
     same-length
     returns)
