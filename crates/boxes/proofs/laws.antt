@@ -4,3 +4,6 @@ pub mod Promise
 pub mod Examples
 pub mod Long
 pub mod Ends
+pub mod Listing
+pub mod Parts
+pub mod Sound

@@ -1,6 +1,6 @@
 -- 2 ACCEPT: proposals are kept, and once all are there the job is accepted (Figure 4, lines 10-16).
 use Prim.Native.Nat.{ℕ}
-use mathlib.Core.Bool.{Bool, not, _&&_, _||_, true}
+use mathlib.Core.Bool.{Bool, not, _&&_, _||_}
 use mathlib.Core.List.{List, [], _∷_}
 use lib.Dec.{eqb}
 use Rattle.laws.specs.Choice.{pick}
@@ -14,13 +14,14 @@ use Rattle.house.specs.declared.Row.{Row}
 use Rattle.house.specs.Plan.{homeOf, names}
 use Rattle.house.specs.declared.Plan.{Plan}
 use Rattle.house.specs.Marks.{noMarks}
-use Rattle.records.specs.Answers.{notNamed, wrongStatus, wrongBallot}
+use Rattle.records.specs.Answers.{notNamed, wrongStatus, wrongBallot, orNo}
 use Rattle.records.specs.Rec.{Rec, Proposal, accept-ack}
+use Rattle.records.specs.declared.Answer.{Answer}
+use Rattle.records.specs.declared.Answer.the-variants.{Done}
 use Rattle.boxes.specs.Box.{isRecovering, ownOf, homeIn, rowAt, keptBallot, keptStamp, marksAt, putRow, putKept, raised}
-use Rattle.boxes.specs.Out.{Out, does, guard, toEach, inOrder}
+use Rattle.boxes.specs.Out.{Out, does, toEach, under}
 use Rattle.boxes.specs.declared.BoxState.{BoxState}
 use Rattle.boxes.specs.declared.Delivery.the-variants.{Nothing}
-use Rattle.records.specs.declared.Answer.{Answer}
 
 -- the same ACCEPT is kept already
 unfoldable pub sameKept : BoxState → ℕ → District → Proposal → Bool
@@ -77,12 +78,11 @@ whenKept P x j = pick (allKept P x j) (does (accepted P x j) (acks P (accepted P
 -- what it is answered
 abbrev pub acceptAnswer : Plan → BoxState → BoxNo → ℕ → Proposal → Answer
 acceptAnswer P x from j y =
-    inOrder (names P j (homeIn P x)) (not (isRecovering (x .core .status))) (ballotFits P x j (homeOf P from) y && stampFits x j (homeOf P from) y) true true
+    orNo (names P j (homeIn P x)) notNamed
+    -- recovering: 7 (line 11)
+    (orNo (not (isRecovering (x .core .status))) wrongStatus
+    (orNo (ballotFits P x j (homeOf P from) y && stampFits x j (homeOf P from) y) wrongBallot
+    Done))
 
 unfoldable pub onAccept : Plan → BoxState → BoxNo → ℕ → Proposal → Out
-onAccept P x from j y =
-    guard (names P j (homeIn P x)) notNamed
-    -- recovering: 7 (line 11)
-    (guard (not (isRecovering (x .core .status))) wrongStatus
-    (guard (ballotFits P x j (homeOf P from) y && stampFits x j (homeOf P from) y) wrongBallot
-    (whenKept P (kept x j (homeOf P from) y) j)))
+onAccept P x from j y = under (acceptAnswer P x from j y) (whenKept P (kept x j (homeOf P from) y) j)

@@ -1,6 +1,6 @@
 -- 3 ACCEPT_ACK: a leader counts marks, commits, and hands out what is ready (Figure 4, lines 17-23).
 use Prim.Native.Nat.{ℕ}
-use mathlib.Core.Bool.{Bool, not, _&&_, _||_, true}
+use mathlib.Core.Bool.{Bool, not, _&&_, _||_}
 use mathlib.Core.List.{List, []}
 use lib.ListN.{getD}
 use lib.Dec.{eqb}
@@ -12,13 +12,14 @@ use Rattle.house.specs.declared.BoxNo.{BoxNo}
 use Rattle.house.specs.Plan.{names}
 use Rattle.house.specs.declared.Plan.{Plan}
 use Rattle.house.specs.Marks.{hasMark, marked, quorumEach}
-use Rattle.records.specs.Answers.{notNamed, wrongStatus, wrongBallot, alreadyDone}
+use Rattle.records.specs.Answers.{notNamed, wrongStatus, wrongBallot, alreadyDone, orNo}
+use Rattle.records.specs.declared.Answer.{Answer}
+use Rattle.records.specs.declared.Answer.the-variants.{Done}
 use Rattle.boxes.specs.Box.{isLeader, ownOf, homeIn, rowAt, keptBallot, keptStamp, marksAt, putRow, putMarks}
-use Rattle.boxes.specs.Out.{Out, does, guard, inOrder}
+use Rattle.boxes.specs.Out.{Out, does, under}
 use Rattle.boxes.specs.Ready.{handOut, handing}
 use Rattle.boxes.specs.declared.BoxState.{BoxState}
 use Rattle.boxes.specs.declared.Delivery.the-variants.{Nothing}
-use Rattle.records.specs.declared.Answer.{Answer}
 use Rattle.boxes.specs.Accept.{latestKept}
 
 -- each named district's ballot equals the kept one, and the own one cballot (lines 17-18)
@@ -43,14 +44,13 @@ whenMarked P x j = pick (enough P x j) (handing (handOut P (committed P x j))) (
 -- what it is answered
 abbrev pub acceptAckAnswer : Plan → BoxState → BoxNo → ℕ → List Ballot → Answer
 acceptAckAnswer P x from j bs =
-    inOrder (names P j (homeIn P x)) (isLeader (x .core .status)) (agree P x j bs) (not (eqb (rowAt x j .phase) 3) && not (hasMark (marksAt x j) from)) true
+    orNo (names P j (homeIn P x)) notNamed
+    -- leader only (line 18)
+    (orNo (isLeader (x .core .status)) wrongStatus
+    (orNo (agree P x j bs) wrongBallot
+    -- phase 3 or already marked
+    (orNo (not (eqb (rowAt x j .phase) 3) && not (hasMark (marksAt x j) from)) alreadyDone
+    Done)))
 
 unfoldable pub onAcceptAck : Plan → BoxState → BoxNo → ℕ → List Ballot → Out
-onAcceptAck P x from j bs =
-    guard (names P j (homeIn P x)) notNamed
-    -- leader only (line 18)
-    (guard (isLeader (x .core .status)) wrongStatus
-    (guard (agree P x j bs) wrongBallot
-    -- phase 3 or already marked
-    (guard (not (eqb (rowAt x j .phase) 3) && not (hasMark (marksAt x j) from)) alreadyDone
-    (whenMarked P (putMarks x j (marked (marksAt x j) from)) j))))
+onAcceptAck P x from j bs = under (acceptAckAnswer P x from j bs) (whenMarked P (putMarks x j (marked (marksAt x j) from)) j)

@@ -1,19 +1,20 @@
 -- 4 DELIVER: a job is delivered (Figure 4, lines 24-31).
 use Prim.Native.Nat.{ℕ}
-use mathlib.Core.Bool.{not, _&&_, true}
+use mathlib.Core.Bool.{not, _&&_}
 use mathlib.Core.List.{[]}
 use Rattle.house.specs.Pairs.{stampLt, sameBallot}
 use Rattle.house.specs.declared.Stamp.{Stamp}
 use Rattle.house.specs.declared.Ballot.{Ballot}
 use Rattle.house.specs.Plan.{names}
 use Rattle.house.specs.declared.Plan.{Plan}
-use Rattle.records.specs.Answers.{notNamed, wrongStatus, wrongBallot, alreadyDone}
+use Rattle.records.specs.Answers.{notNamed, wrongStatus, wrongBallot, alreadyDone, orNo}
 use Rattle.records.specs.Rec.{Handout}
+use Rattle.records.specs.declared.Answer.{Answer}
+use Rattle.records.specs.declared.Answer.the-variants.{Done}
 use Rattle.boxes.specs.Box.{isRecovering, homeIn, lastStamp, onList, putRow, putListed, raised}
-use Rattle.boxes.specs.Out.{Out, does, guard, inOrder}
+use Rattle.boxes.specs.Out.{Out, does, under}
 use Rattle.boxes.specs.declared.BoxState.{BoxState}
 use Rattle.boxes.specs.declared.Delivery.the-variants.{Job}
-use Rattle.records.specs.declared.Answer.{Answer}
 
 -- phase 3, both stamps, clock raised (lines 26-29), job added to the list (lines 30-31)
 unfoldable pub delivered : BoxState → ℕ → Handout → BoxState
@@ -23,14 +24,13 @@ delivered x j y =
 -- what it is answered
 abbrev pub deliverAnswer : Plan → BoxState → ℕ → Ballot → Stamp → Answer
 deliverAnswer P x j b global =
-    inOrder (names P j (homeIn P x)) (not (isRecovering (x .core .status))) (sameBallot b (x .core .cballot)) (stampLt (lastStamp x) global && not (onList x j)) true
+    orNo (names P j (homeIn P x)) notNamed
+    -- not recovering, ballot is cballot (line 25)
+    (orNo (not (isRecovering (x .core .status))) wrongStatus
+    (orNo (sameBallot b (x .core .cballot)) wrongBallot
+    -- stamp above the last delivered and job not on the list
+    (orNo (stampLt (lastStamp x) global && not (onList x j)) alreadyDone
+    Done)))
 
 unfoldable pub onDeliver : Plan → BoxState → ℕ → Handout → Out
-onDeliver P x j y =
-    guard (names P j (homeIn P x)) notNamed
-    -- not recovering, ballot is cballot (line 25)
-    (guard (not (isRecovering (x .core .status))) wrongStatus
-    (guard (sameBallot (y .ballot) (x .core .cballot)) wrongBallot
-    -- stamp above the last delivered and job not on the list
-    (guard (stampLt (lastStamp x) (y .global) && not (onList x j)) alreadyDone
-    (does (delivered x j y) [] (Job j)))))
+onDeliver P x j y = under (deliverAnswer P x j (y .ballot) (y .global)) (does (delivered x j y) [] (Job j))

@@ -1,4 +1,5 @@
 -- The box and the protocol: document 01, 'A box', 'What each kind does', 'Answers'; Figure 4 of the paper that document 01 names.
+-- One file a kind and an order.
 pub mod Box
 pub mod Sound
 pub mod Out
@@ -19,3 +20,4 @@ pub mod Cut
 pub mod Step
 pub mod Promise
 pub mod Examples
+pub mod Lengths

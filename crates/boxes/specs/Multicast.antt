@@ -1,6 +1,6 @@
 -- 1 MULTICAST: a leader proposes a job (Figure 4, lines 3-9).
 use Prim.Native.Nat.{ℕ, _+_}
-use mathlib.Core.Bool.{not, _||_, true}
+use mathlib.Core.Bool.{not, _||_}
 use mathlib.Core.List.{List}
 use lib.Dec.{ltb, eqb}
 use Rattle.laws.specs.Choice.{pick}
@@ -8,13 +8,14 @@ use Rattle.house.specs.Limits.{mostTime}
 use Rattle.house.specs.Pairs.{stamp, noStamp}
 use Rattle.house.specs.Plan.{names}
 use Rattle.house.specs.declared.Plan.{Plan}
-use Rattle.records.specs.Answers.{notNamed, wrongStatus, atLimit}
+use Rattle.records.specs.Answers.{notNamed, wrongStatus, atLimit, orNo}
 use Rattle.records.specs.Rec.{Rec, accept}
+use Rattle.records.specs.declared.Answer.{Answer}
+use Rattle.records.specs.declared.Answer.the-variants.{Done}
 use Rattle.boxes.specs.Box.{isLeader, ownOf, homeIn, rowAt, putRow}
-use Rattle.boxes.specs.Out.{Out, does, guard, toNamed, inOrder}
+use Rattle.boxes.specs.Out.{Out, does, toNamed, under}
 use Rattle.boxes.specs.declared.BoxState.{BoxState}
 use Rattle.boxes.specs.declared.Delivery.the-variants.{Nothing}
-use Rattle.records.specs.declared.Answer.{Answer}
 
 -- phase 0: clock + 1, new local stamp, phase 1 (lines 5-8)
 unfoldable pub proposed : Plan → BoxState → ℕ → BoxState
@@ -29,13 +30,13 @@ accepts P x j = toNamed P j (λ to. accept (ownOf x) to j (record { ballot = x .
 
 -- what it is answered
 abbrev pub multicastAnswer : Plan → BoxState → ℕ → Answer
-multicastAnswer P x j = inOrder (names P j (homeIn P x)) (isLeader (x .core .status)) true true (not (eqb (rowAt x j .phase) 0) || ltb (x .core .clock) mostTime)
+multicastAnswer P x j =
+    orNo (names P j (homeIn P x)) notNamed
+    -- leader only (line 4)
+    (orNo (isLeader (x .core .status)) wrongStatus
+    -- a new stamp needs room on the clock
+    (orNo (not (eqb (rowAt x j .phase) 0) || ltb (x .core .clock) mostTime) atLimit
+    Done))
 
 unfoldable pub onMulticast : Plan → BoxState → ℕ → Out
-onMulticast P x j =
-    guard (names P j (homeIn P x)) notNamed
-    -- leader only (line 4)
-    (guard (isLeader (x .core .status)) wrongStatus
-    -- a new stamp needs room on the clock
-    (guard (not (eqb (rowAt x j .phase) 0) || ltb (x .core .clock) mostTime) atLimit
-    (does (proposed P x j) (accepts P (proposed P x j) j) Nothing)))
+onMulticast P x j = under (multicastAnswer P x j) (does (proposed P x j) (accepts P (proposed P x j) j) Nothing)

@@ -1,19 +1,19 @@
 -- 5 NEWLEADER: a box joins a higher ballot and votes (Figure 4, lines 37-41).
-use mathlib.Core.Bool.{true}
 use mathlib.Core.List.{[], _∷_}
 use Rattle.house.specs.Pairs.{stamp, ballotLt}
 use Rattle.house.specs.declared.Stamp.{Stamp}
 use Rattle.house.specs.declared.Ballot.{Ballot}
 use Rattle.house.specs.declared.BoxNo.{BoxNo}
 use Rattle.house.specs.declared.Plan.{Plan}
-use Rattle.records.specs.Answers.{wrongBallot}
+use Rattle.records.specs.Answers.{wrongBallot, orNo}
 use Rattle.records.specs.Rec.{Rec, newleader-ack}
+use Rattle.records.specs.declared.Answer.{Answer}
+use Rattle.records.specs.declared.Answer.the-variants.{Done}
 use Rattle.boxes.specs.Box.{ownOf, homeIn, noVote, putMode, putVote}
-use Rattle.boxes.specs.Out.{Out, does, guard, inOrder}
+use Rattle.boxes.specs.Out.{Out, does, under}
 use Rattle.boxes.specs.declared.BoxState.{BoxState}
 use Rattle.boxes.specs.declared.Status.the-variants.{Recovering}
 use Rattle.boxes.specs.declared.Delivery.the-variants.{Nothing}
-use Rattle.records.specs.declared.Answer.{Answer}
 
 -- recovering, ballot set, vote dropped (lines 39-40)
 unfoldable pub joined : BoxState → Ballot → BoxState
@@ -29,10 +29,10 @@ voteFor P x to b = newleader-ack (ownOf x) to (record { ballot = b; cballot = x 
 
 -- what it is answered
 abbrev pub newleaderAnswer : BoxState → Ballot → Answer
-newleaderAnswer x b = inOrder true true (ballotLt (x .core .ballot) b) true true
+newleaderAnswer x b =
+    -- any status; ballot above own ballot (line 38)
+    orNo (ballotLt (x .core .ballot) b) wrongBallot
+    Done
 
 unfoldable pub onNewleader : Plan → BoxState → BoxNo → Ballot → Out
-onNewleader P x from b =
-    -- any status; ballot above own ballot (line 38)
-    guard (ballotLt (x .core .ballot) b) wrongBallot
-    (does (joined x b) (voteFor P x from b ∷ []) Nothing)
+onNewleader P x from b = under (newleaderAnswer x b) (does (joined x b) (voteFor P x from b ∷ []) Nothing)

@@ -9,14 +9,15 @@ use Rattle.house.specs.declared.Ballot.{Ballot}
 use Rattle.house.specs.declared.BoxNo.{BoxNo}
 use Rattle.house.specs.Plan.{quorumOf}
 use Rattle.house.specs.declared.Plan.{Plan}
-use Rattle.records.specs.Answers.{wrongStatus, wrongBallot, alreadyDone}
+use Rattle.records.specs.Answers.{wrongStatus, wrongBallot, alreadyDone, orNo}
 use Rattle.records.specs.Rec.{Rec, Ballotpaper, new-state}
+use Rattle.records.specs.declared.Answer.{Answer}
+use Rattle.records.specs.declared.Answer.the-variants.{Done}
 use Rattle.boxes.specs.Box.{isRecovering, ownOf, putVote}
-use Rattle.boxes.specs.Out.{Out, does, guard, toOthers, inOrder}
+use Rattle.boxes.specs.Out.{Out, does, toOthers, under}
 use Rattle.boxes.specs.declared.BoxState.{BoxState}
 use Rattle.boxes.specs.declared.Vote.{Vote}
 use Rattle.boxes.specs.declared.Delivery.the-variants.{Nothing}
-use Rattle.records.specs.declared.Answer.{Answer}
 use Rattle.boxes.specs.Newleader.{clockStamp}
 use Rattle.boxes.specs.Merge.{merged}
 
@@ -50,13 +51,12 @@ votedBy x from = x .volatile .vote .held && eqb (x .volatile .vote .voter .0) (f
 -- what it is answered
 abbrev pub newleaderAckAnswer : BoxState → BoxNo → Ballot → Answer
 newleaderAckAnswer x from b =
-    inOrder true (isRecovering (x .core .status)) (sameBallot b (x .core .ballot)) (not (sameBallot (x .core .cballot) (x .core .ballot)) && not (votedBy x from)) true
+    -- recovering, ballot equal (line 43)
+    orNo (isRecovering (x .core .status)) wrongStatus
+    (orNo (sameBallot b (x .core .ballot)) wrongBallot
+    -- merged already, or the same voter (H)
+    (orNo (not (sameBallot (x .core .cballot) (x .core .ballot)) && not (votedBy x from)) alreadyDone
+    Done))
 
 unfoldable pub onNewleaderAck : Plan → BoxState → BoxNo → Ballotpaper → Out
-onNewleaderAck P x from y =
-    -- recovering, ballot equal (line 43)
-    guard (isRecovering (x .core .status)) wrongStatus
-    (guard (sameBallot (y .ballot) (x .core .ballot)) wrongBallot
-    -- merged already, or the same voter (H)
-    (guard (not (sameBallot (x .core .cballot) (x .core .ballot)) && not (votedBy x from)) alreadyDone
-    (whenVoted P x (voteOf from y))))
+onNewleaderAck P x from y = under (newleaderAckAnswer x from (y .ballot)) (whenVoted P x (voteOf from y))

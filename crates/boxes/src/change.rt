@@ -41,7 +41,7 @@ pub fn put_mode(x: BoxState, s: Status, b: Ballot, cb: Ballot) -> BoxState
 }
 
 // the clock and the table
-pub fn put_table(x: BoxState, clock: u32, table: [Row; 64]) -> BoxState
+pub fn put_table(x: BoxState, clock: u32, table: [Row; house::JOBS]) -> BoxState
     ensures { λ r. ⌜ r ≡ putTable x clock table ⌝ }
 {
     let mut n = x;
@@ -68,7 +68,7 @@ pub fn put_row(x: BoxState, clock: u32, job: usize, row: Row) -> BoxState
 }
 
 // the sent flags
-pub fn put_sent(x: BoxState, sent: [bool; 64]) -> BoxState
+pub fn put_sent(x: BoxState, sent: [bool; house::JOBS]) -> BoxState
     ensures { λ r. ⌜ r ≡ putSent x sent ⌝ }
 {
     let mut n = x;

@@ -15,7 +15,7 @@ pub fn no_vote() -> Vote
     ensures { λ r. ⌜ r ≡ noVote ⌝ }
 {
     let row = house::no_row();
-    let table = [row; 64];
+    let table = [row; house::JOBS];
     Vote {
         held: false,
         voter: BoxNo(0),
@@ -29,9 +29,9 @@ pub fn no_vote() -> Vote
 fn fresh_volatile() -> Volatile
     ensures { λ r. ⌜ r ≡ freshVolatile ⌝ }
 {
-    let kept_ballots = [house::no_ballot(); 256];
-    let kept_stamps = [house::no_stamp(); 256];
-    let marks = [0u32; 64];
+    let kept_ballots = [house::no_ballot(); house::PAIRS];
+    let kept_stamps = [house::no_stamp(); house::PAIRS];
+    let marks = [0u32; house::JOBS];
     let vote = no_vote();
     Volatile {
         kept_ballots: kept_ballots,
@@ -45,13 +45,13 @@ fn fresh_volatile() -> Volatile
 pub fn fresh_box(own: BoxNo) -> BoxState
     ensures { λ r. ⌜ r ≡ fresh own ⌝ }
 {
-    let table = [house::no_row(); 64];
-    let sent = [false; 64];
+    let table = [house::no_row(); house::JOBS];
+    let sent = [false; house::JOBS];
     let none = Listed {
         job: 0,
         stamp: house::no_stamp(),
     };
-    let list = [none; 64];
+    let list = [none; house::JOBS];
     let core = Core {
         own: own,
         status: Status::Follower,

@@ -51,10 +51,10 @@ pub struct Core {
     pub clock: u32,
     pub ballot: Ballot,
     pub cballot: Ballot,
-    pub table: [Row; 64],
-    pub sent: [bool; 64],
+    pub table: [Row; house::JOBS],
+    pub sent: [bool; house::JOBS],
     pub count: u8,
-    pub list: [Listed; 64],
+    pub list: [Listed; house::JOBS],
 }
 
 pub struct Vote {
@@ -62,14 +62,14 @@ pub struct Vote {
     pub voter: BoxNo,
     pub cballot: Ballot,
     pub clock: u32,
-    pub table: [Row; 64],
+    pub table: [Row; house::JOBS],
 }
 
 // what a cut forgets: the ACCEPT kept for each pair of job and district, the marks, the vote
 pub struct Volatile {
-    pub kept_ballots: [Ballot; 256],
-    pub kept_stamps: [Stamp; 256],
-    pub marks: [u32; 64],
+    pub kept_ballots: [Ballot; house::PAIRS],
+    pub kept_stamps: [Stamp; house::PAIRS],
+    pub marks: [u32; house::JOBS],
     pub vote: Vote,
 }
 

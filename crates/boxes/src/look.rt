@@ -13,9 +13,6 @@ use house::Row;
 use house::Stamp;
 use records::Answer;
 
-// so many pairs of job and district have a kept ACCEPT
-pub const MOST_KEPT: usize = 256;
-
 // the first of the tests 6 to 10 that fails
 pub fn in_order(named: bool, status: bool, ballot: bool, undone: bool, room: bool) -> Answer
     ensures { λ r. ⌜ r ≡ inOrder named status ballot undone room ⌝ }
@@ -108,7 +105,7 @@ pub fn kept_ballot(x: BoxState, job: u8, d: District) -> Ballot
     ensures { λ r. ⌜ r ≡ keptBallot x job d ⌝ }
 {
     let at = (job as usize) * 4 + d.0 as usize;
-    if MOST_KEPT <= at {
+    if house::PAIRS <= at {
         return house::no_ballot();
     }
     let v = x.volatile;
@@ -121,7 +118,7 @@ pub fn kept_stamp(x: BoxState, job: u8, d: District) -> Stamp
     ensures { λ r. ⌜ r ≡ keptStamp x job d ⌝ }
 {
     let at = (job as usize) * 4 + d.0 as usize;
-    if MOST_KEPT <= at {
+    if house::PAIRS <= at {
         return house::no_stamp();
     }
     let v = x.volatile;

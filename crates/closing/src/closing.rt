@@ -23,7 +23,7 @@ use rehearsal::Night;
 
 // what the boxes say of each job, and how long their lines are
 struct Boxed {
-    ends: [JobEnd; 64],
+    ends: [JobEnd; house::JOBS],
     used: usize,
 }
 
@@ -71,7 +71,7 @@ fn put_boxes(night: Night, n: u8, t: &mut [u8]) -> Boxed
 }
 
 // the lines of the first n jobs, from what the boxes say of each
-fn put_jobs(plan: Plan, ends: [JobEnd; 64], n: u8, t: &mut [u8]) -> usize
+fn put_jobs(plan: Plan, ends: [JobEnd; house::JOBS], n: u8, t: &mut [u8]) -> usize
     requires { ⌜ (planSound plan ≡ true) × (n ≤ mostJobs) × (mostJobs * jobMost ≤ length (now t)) ⌝ }
     ensures { λ r. ⌜ (r ≤ mostJobs * jobMost) × ((night : Night) → AllEnded night (boxesOf plan) ends → (r ≡ length (allFor (jobReport plan night) n)) × (now (t .exit) ≡ onto (allFor (jobReport plan night) n) (now (t .entry)))) ⌝ }
 {

@@ -15,9 +15,6 @@ use house::Row;
 use house::Stamp;
 use rehearsal::Night;
 
-// the phase of a committed job
-const COMMITTED: u8 = 3;
-
 // where a job is committed: the global stamp at the first box that has it so
 pub struct Committed {
     pub found: bool,
@@ -31,11 +28,11 @@ pub struct JobEnd {
 }
 
 // the jobs of a box's list, place by place
-pub fn jobs_of(x: BoxState) -> [u8; 64]
+pub fn jobs_of(x: BoxState) -> [u8; house::JOBS]
     ensures { λ r. ⌜ r ≡ jobsOf x ⌝ }
 {
-    let mut out = [0u8; 64];
-    for i in 0..64u8 {
+    let mut out = [0u8; house::JOBS];
+    for i in 0..house::MOST_JOBS {
         let l = boxes::listed_at(x, i);
         let at = i as usize;
         out[at] = l.job;
@@ -50,7 +47,7 @@ pub fn shown_of(x: BoxState) -> usize
     let c = x.core;
     let n = c.count;
     if house::MOST_JOBS < n {
-        return 64;
+        return house::JOBS;
     }
     n as usize
 }
@@ -62,7 +59,7 @@ fn first_of(first: Committed, row: Row) -> Committed
     if first.found {
         return first;
     }
-    if row.phase == COMMITTED {
+    if row.phase == house::COMMITTED {
         let stamp = row.global;
         return Committed {
             found: true,
@@ -95,7 +92,7 @@ fn end_with(end: JobEnd, p: BoxNo, x: BoxState, job: u8) -> JobEnd
 }
 
 // before any box is asked: nothing found and no holders, for each job
-pub fn no_ends() -> [JobEnd; 64]
+pub fn no_ends() -> [JobEnd; house::JOBS]
     ensures { λ r. ⌜ r ≡ noEnds ⌝ }
 {
     let first = Committed {
@@ -106,11 +103,11 @@ pub fn no_ends() -> [JobEnd; 64]
         first: first,
         holders: house::no_marks(),
     };
-    [none; 64]
+    [none; house::JOBS]
 }
 
 // what the boxes before p say of each job, and box p, which is x
-pub fn with_box(ends: [JobEnd; 64], p: BoxNo, x: BoxState) -> [JobEnd; 64]
+pub fn with_box(ends: [JobEnd; house::JOBS], p: BoxNo, x: BoxState) -> [JobEnd; house::JOBS]
     ensures { λ r. ⌜ OneMore p x ends r ⌝ }
 {
     let mut out = ends;

@@ -6,4 +6,5 @@ mod endings;
 pub use closing::close;
 
 // the room of the report
-pub const REPORT_ROOM: usize = rehearsal::MOST_BOXES * report::BOX_ROOM + 64 * report::JOB_ROOM;
+pub const REPORT_ROOM: usize = rehearsal::MOST_BOXES * report::BOX_ROOM
+    + house::JOBS * report::JOB_ROOM;

@@ -19,7 +19,7 @@ use Rattle.records.specs.declared.Answer.the-variants.{Done}
 use Rattle.boxes.specs.Sound.{sound}
 use Rattle.boxes.specs.declared.BoxState.{BoxState}
 use Rattle.boxes.specs.declared.Outcome.{Outcome}
-use Rattle.stays_sound.specs.Sound.{Lengths}
+use Rattle.boxes.specs.Lengths.{Lengths}
 use Rattle.stays_sound.specs.Size.{longestOutput}
 use Rattle.collector.specs.Promises.{BoxFresh, BytesReceived, JobRetried, BoxStood, BoxCut, JobPosted}
 use Rattle.collector.specs.declared.Posted.{Posted}

@@ -1,11 +1,11 @@
-// The public face of a box: fresh, receive, post, retry, stand, cut. Each judges first, over the box as it is, and answers for every input: its
-// promise stands in specs/Promises.antt, what it does in specs/Step.antt of the crate boxes.
+// The public face of a box: fresh, receive, post, retry, stand, cut. Each judges first, over the box as it is, and answers for every input.
+// The promises stand in specs/Promises.antt, what each does in specs/Step.antt of boxes.
 ghost use mathlib.Core.Path.{_≡_};
 ghost use lib.ListN.{length};
 ghost use Rattle.boxes.specs.Sound.{sound};
 ghost use Rattle.boxes.specs.Retry.{retries};
+ghost use Rattle.boxes.specs.Stand.{standing};
 ghost use Rattle.boxes.specs.Step.{mayPost, retried, stood};
-ghost use Rattle.steps.specs.Orders.{standing};
 ghost use Rattle.collector.specs.Face.{admission, refusal, unlessNo, Allowed, Numbering, Answering, Written};
 ghost use Rattle.collector.specs.Promises.{BoxFresh, BytesReceived, JobRetried, BoxStood, BoxCut, JobPosted};
 use boxes::BoxState;

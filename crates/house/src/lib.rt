@@ -43,6 +43,22 @@ pub const MOST_DISTRICTS: u8 = 4;
 
 pub const MOST_JOBS: u8 = 64;
 
+// the same as lengths of arrays; and for how many pairs of job and district a box keeps an ACCEPT
+pub const DISTRICTS: usize = MOST_DISTRICTS as usize;
+
+pub const JOBS: usize = MOST_JOBS as usize;
+
+pub const PAIRS: usize = JOBS * DISTRICTS;
+
+// the phases of a job
+pub const START: u8 = 0;
+
+pub const PROPOSED: u8 = 1;
+
+pub const ACCEPTED: u8 = 2;
+
+pub const COMMITTED: u8 = 3;
+
 pub const MOST_TIME: u32 = 1_000_000;
 
 pub const MOST_NUMBER: u16 = 65_535;
@@ -76,5 +92,5 @@ pub struct Row {
 pub struct Plan {
     pub districts: u8,
     pub jobs: u8,
-    pub masks: [u8; 64],
+    pub masks: [u8; JOBS],
 }

@@ -34,7 +34,7 @@ pub fn no_row() -> Row
         district: District(0),
     };
     Row {
-        phase: 0,
+        phase: crate::START,
         local: none,
         global: none,
     }

@@ -4,7 +4,7 @@ pub mod Quorate
 pub mod Notions
 pub mod Inv
 pub mod Laws
-pub mod Sound
+pub mod Facts
 pub mod Sends
 pub mod HandOut
 pub mod Moves

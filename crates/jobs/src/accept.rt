@@ -149,12 +149,12 @@ pub fn raise(clock: u32, time: u32) -> u32
 fn row_accepted(row: Row, s: Stamp) -> Row
     ensures { λ r. ⌜ r ≡ acceptedRow row s ⌝ }
 {
-    if row.phase == 3 {
+    if row.phase == house::COMMITTED {
         return row;
     }
     let none = house::no_stamp();
     Row {
-        phase: 2,
+        phase: house::ACCEPTED,
         local: s,
         global: none,
     }

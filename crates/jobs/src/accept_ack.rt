@@ -23,7 +23,7 @@ use house::Row;
 use records::Answer;
 
 // 3 ACCEPT_ACK: the ballot of each of the first n districts that the job names equals the kept one
-fn agree_below(plan: Plan, x: BoxState, job: u8, ballots: [Ballot; 4], n: u8) -> bool
+fn agree_below(plan: Plan, x: BoxState, job: u8, ballots: [Ballot; house::DISTRICTS], n: u8) -> bool
     ensures { λ r. ⌜ r ≡ agreeBelow plan x job ballots n ⌝ }
 {
     let mut ok = true;
@@ -36,7 +36,7 @@ fn agree_below(plan: Plan, x: BoxState, job: u8, ballots: [Ballot; 4], n: u8) ->
 }
 
 // and the own one equals cballot
-fn all_agree(plan: Plan, x: BoxState, job: u8, ballots: [Ballot; 4]) -> bool
+fn all_agree(plan: Plan, x: BoxState, job: u8, ballots: [Ballot; house::DISTRICTS]) -> bool
     ensures { λ r. ⌜ r ≡ agree plan x job ballots ⌝ }
 {
     let c = x.core;
@@ -51,7 +51,7 @@ pub fn decide_accept_ack(
     x: BoxState,
     from: BoxNo,
     job: u8,
-    ballots: [Ballot; 4],
+    ballots: [Ballot; house::DISTRICTS],
 ) -> Answer
     ensures { λ r. ⌜ r ≡ acceptAckAnswer plan x from job ballots ⌝ }
 {
@@ -63,7 +63,7 @@ pub fn decide_accept_ack(
     let agreed = all_agree(plan, x, job, ballots);
     let row = boxes::row_at(x, job);
     let old = boxes::marks_at(x, job);
-    let undone = !(row.phase == 3) & !house::has_mark(old, from);
+    let undone = !(row.phase == house::COMMITTED) & !house::has_mark(old, from);
     boxes::in_order(named, leads, agreed, undone, true)
 }
 
@@ -97,7 +97,7 @@ fn commit(plan: Plan, x: BoxState, job: u8) -> BoxState
     let local = boxes::kept_stamp(x, job, home);
     let global = accept::latest_kept(plan, x, job, plan.districts);
     let new = Row {
-        phase: 3,
+        phase: house::COMMITTED,
         local: local,
         global: global,
     };
@@ -139,7 +139,7 @@ pub fn do_accept_ack(
     x: BoxState,
     from: BoxNo,
     job: u8,
-    ballots: [Ballot; 4],
+    ballots: [Ballot; house::DISTRICTS],
     tray: &mut [u8],
 ) -> Outcome
     requires { ⌜ (planSound plan ≡ true) × (job < 64) × (length (encodeAll plan (recordsOf (onAcceptAck plan x from job ballots))) ≤ length (now tray)) × (acceptAckAnswer plan x from job ballots ≡ Answer.Done) ⌝ }

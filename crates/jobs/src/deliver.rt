@@ -38,7 +38,7 @@ fn deliver(x: BoxState, job: u8, b: Ballot, local: Stamp, global: Stamp) -> BoxS
     let c = x.core;
     let clock = accept::raise(c.clock, global.time);
     let new = Row {
-        phase: 3,
+        phase: house::COMMITTED,
         local: local,
         global: global,
     };

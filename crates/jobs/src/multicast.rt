@@ -28,7 +28,7 @@ pub fn decide_multicast(plan: Plan, x: BoxState, job: u8) -> Answer
     let named = house::named(plan, job, home);
     let leads = boxes::is_leader(status);
     let row = boxes::row_at(x, job);
-    let room = !(row.phase == 0) | (c.clock < house::MOST_TIME);
+    let room = !(row.phase == house::START) | (c.clock < house::MOST_TIME);
     boxes::in_order(named, leads, true, true, room)
 }
 
@@ -38,7 +38,7 @@ fn propose(plan: Plan, x: BoxState, job: u8) -> BoxState
     ensures { λ r. ⌜ r ≡ proposed plan x job ⌝ }
 {
     let row = boxes::row_at(x, job);
-    if row.phase == 0 {} else {
+    if row.phase == house::START {} else {
         return x;
     }
     let c = x.core;
@@ -50,7 +50,7 @@ fn propose(plan: Plan, x: BoxState, job: u8) -> BoxState
     };
     let none = house::no_stamp();
     let new = Row {
-        phase: 1,
+        phase: house::PROPOSED,
         local: local,
         global: none,
     };

@@ -1,18 +1,14 @@
 // The tests of a retry.
 // The definition, retry, stands in specs/Retry.antt of boxes.
 ghost use mathlib.Core.Path.{_≡_};
-ghost use mathlib.Core.Bool.{true};
-ghost use Rattle.house.specs.Plan.{names};
-ghost use Rattle.boxes.specs.Box.{homeIn};
-ghost use Rattle.boxes.specs.Ready.{isOpen};
-ghost use Rattle.boxes.specs.Out.{inOrder};
+ghost use Rattle.boxes.specs.Retry.{retryAnswer};
 use boxes::BoxState;
 use house::Plan;
 use records::Answer;
 
 // retry: phase 0 or 3 is done already
 pub fn decide_retry(plan: Plan, x: BoxState, job: u8) -> Answer
-    ensures { λ r. ⌜ r ≡ inOrder (names plan job (homeIn plan x)) true true (isOpen x job) true ⌝ }
+    ensures { λ r. ⌜ r ≡ retryAnswer plan x job ⌝ }
 {
     let home = boxes::home_in(plan, x);
     let named = house::named(plan, job, home);

@@ -1,4 +1,4 @@
--- Laws that speak of no house type. Each is stated once, over the width, the size or the element, and cited above.
+-- Words that know no house type: choice, folds, places of lists, numbers by bytes, codecs of fixed width, trays.
 pub mod Choice
 pub mod Fold
 pub mod Place

@@ -21,7 +21,7 @@ use house::Stamp;
 // what the votes come to: the larger clock and the merged table
 pub struct Merged {
     pub clock: u32,
-    pub table: [Row; 64],
+    pub table: [Row; house::JOBS],
 }
 
 // the clock raised to a time
@@ -32,7 +32,7 @@ fn raise(c: u32, t: u32) -> u32
 }
 
 // a vote as it is kept, whatever ballot it is for
-pub fn vote_of(from: BoxNo, cballot: Ballot, clock: Stamp, table: [Row; 64]) -> Vote
+pub fn vote_of(from: BoxNo, cballot: Ballot, clock: Stamp, table: [Row; house::JOBS]) -> Vote
     ensures { λ r. ⌜ ((b : Ballot) → r ≡ voteOf from (record { ballot = b; cballot = cballot; clock = clock; table = table })) ⌝ }
 {
     Vote {
@@ -79,14 +79,20 @@ fn merged_row(low: Ballot, a: Row, high: Ballot, b: Row) -> Row
     ensures { λ r. ⌜ ((u v : Vote) (j : ℕ) → u .cballot ≡ low → voteRow u j ≡ a → v .cballot ≡ high → voteRow v j ≡ b → r ≡ mergedRow (u ∷ v ∷ []) j) ⌝ }
 {
     let top = higher_ballot(low, high);
-    let at_one = house::same_ballot(low, top) & (a.phase == 2);
-    let at_two = house::same_ballot(high, top) & (b.phase == 2);
+    let at_one = house::same_ballot(low, top) & (a.phase == house::ACCEPTED);
+    let at_two = house::same_ballot(high, top) & (b.phase == house::ACCEPTED);
     let start = house::no_row();
     let accepted = first_row(at_one, a, at_two, b, start);
-    first_row(a.phase == 3, a, b.phase == 3, b, accepted)
+    first_row(
+        a.phase == house::COMMITTED,
+        a,
+        b.phase == house::COMMITTED,
+        b,
+        accepted,
+    )
 }
 
-fn merged_table(low: Vote, high: Vote, jobs: u8) -> [Row; 64]
+fn merged_table(low: Vote, high: Vote, jobs: u8) -> [Row; house::JOBS]
     requires { ⌜ jobs ≤ 64 ⌝ }
     ensures { λ r. ⌜ r ≡ mergedTable (low ∷ high ∷ []) jobs ⌝ }
 {
@@ -96,7 +102,7 @@ fn merged_table(low: Vote, high: Vote, jobs: u8) -> [Row; 64]
     let others = high.table;
     let n = jobs as usize;
     let start = house::no_row();
-    let mut table = [start; 64];
+    let mut table = [start; house::JOBS];
     for j in 0..n {
         let a = rows[j];
         let b = others[j];
@@ -143,7 +149,7 @@ pub fn merge(plan: Plan, x: BoxState, new: Vote) -> BoxState
     let m = merge_votes(old, new, plan.jobs);
     let table = m.table;
     let with_table = boxes::put_table(x, m.clock, table);
-    let cleared = [false; 64];
+    let cleared = [false; house::JOBS];
     let unsent = boxes::put_sent(with_table, cleared);
     let mode = boxes::put_mode(unsent, Status::Recovering, b, b);
     boxes::put_vote(mode, boxes::no_vote())

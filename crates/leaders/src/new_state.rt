@@ -33,7 +33,7 @@ pub fn decide_new_state(x: BoxState, b: Ballot) -> Answer
 }
 
 // follower, cballot set, clock and table taken
-fn follow(x: BoxState, b: Ballot, clock: Stamp, table: [Row; 64]) -> BoxState
+fn follow(x: BoxState, b: Ballot, clock: Stamp, table: [Row; house::JOBS]) -> BoxState
     ensures { λ r. ⌜ r ≡ followed x (record { ballot = b; clock = clock; table = table }) ⌝ }
 {
     let c = x.core;
@@ -49,7 +49,7 @@ pub fn do_new_state(
     from: BoxNo,
     b: Ballot,
     clock: Stamp,
-    table: [Row; 64],
+    table: [Row; house::JOBS],
     tray: &mut [u8],
 ) -> Outcome
     requires { ⌜ (planSound plan ≡ true) × (length (encodeAll plan (recordsOf (onNewState x from (record { ballot = b; clock = clock; table = table })))) ≤ length (now tray)) × (newStateAnswer x b ≡ Answer.Done) ⌝ }

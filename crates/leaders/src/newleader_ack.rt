@@ -101,7 +101,7 @@ pub fn do_newleader_ack(
     b: Ballot,
     cballot: Ballot,
     clock: Stamp,
-    table: [Row; 64],
+    table: [Row; house::JOBS],
     tray: &mut [u8],
 ) -> Outcome
     requires { ⌜ (planSound plan ≡ true) × (length (encodeAll plan (recordsOf (onNewleaderAck plan x from (record { ballot = b; cballot = cballot; clock = clock; table = table })))) ≤ length (now tray)) × (newleaderAckAnswer x from b ≡ Answer.Done) ⌝ }

@@ -1,10 +1,7 @@
--- What the words of a line and the lines of an input are, and what a number is,
--- with the laws of taking them apart, of reading and of writing them.
+-- What the words and numbers of a line are, which order a line is, how it is held while it comes, and what reading it promises.
 pub mod Parts
 pub mod PartLaws
 pub mod Numeral
--- What the lines of the rehearse program say, how a line is held while it comes,
--- and that reading an input byte by byte gives the orders of its lines.
 pub mod Orders
 pub mod OrderLaws
 pub mod Held

@@ -1,5 +1,5 @@
 -- The rehearse program's lines, as document 01 states them: a line's words make an order, or it is unreadable.
--- `words` and `lines` part a line at its spaces and an input at its LFs (crate words, specs/Parts.antt).
+-- `words` and `lines` part a line at its spaces and an input at its LFs (specs/Parts.antt).
 use Prim.Native.Nat.{ℕ}
 use mathlib.Core.Bool.{_&&_}
 use mathlib.Core.List.{List, [], _∷_, map}

@@ -1,2 +1,2 @@
--- Section 1, and laws of reading a section element by element.
+-- Section 1 as the reader has it.
 pub mod Head

@@ -83,7 +83,7 @@ fn read_row(s: &[u8]) -> Row
 }
 
 // section 2: n ballots from the front, and none behind them
-pub fn read_ballots(s: &[u8], n: u8) -> [Ballot; 4]
+pub fn read_ballots(s: &[u8], n: u8) -> [Ballot; house::DISTRICTS]
     requires { ⌜ (n ≤ 4) × (n * 3 ≤ length (now s)) ⌝ }
     ensures { λ r. ⌜ r ≡ decRow ballots n (now (s .entry)) ++ replicate (4 - n) noBallot ⌝ }
 {
@@ -91,7 +91,7 @@ pub fn read_ballots(s: &[u8], n: u8) -> [Ballot; 4]
         number: 0,
         owner: BoxNo(0),
     };
-    let mut out = [none; 4];
+    let mut out = [none; house::DISTRICTS];
     for i in 0..n {
         let k = i as usize;
         let at = k * 3;
@@ -102,7 +102,7 @@ pub fn read_ballots(s: &[u8], n: u8) -> [Ballot; 4]
 }
 
 // section 3: n stamps
-pub fn read_stamps(s: &[u8], n: u8) -> [Stamp; 2]
+pub fn read_stamps(s: &[u8], n: u8) -> [Stamp; records::STAMPS]
     requires { ⌜ (n ≤ 2) × (n * 5 ≤ length (now s)) ⌝ }
     ensures { λ r. ⌜ r ≡ decRow stamps n (now (s .entry)) ++ replicate (2 - n) noStamp ⌝ }
 {
@@ -110,7 +110,7 @@ pub fn read_stamps(s: &[u8], n: u8) -> [Stamp; 2]
         time: 0,
         district: District(0),
     };
-    let mut out = [none; 2];
+    let mut out = [none; records::STAMPS];
     for i in 0..n {
         let k = i as usize;
         let at = k * 5;
@@ -121,7 +121,7 @@ pub fn read_stamps(s: &[u8], n: u8) -> [Stamp; 2]
 }
 
 // section 4: n rows of the table
-pub fn read_rows(s: &[u8], n: u8) -> [Row; 64]
+pub fn read_rows(s: &[u8], n: u8) -> [Row; house::JOBS]
     requires { ⌜ (n ≤ 64) × (n * 11 ≤ length (now s)) ⌝ }
     ensures { λ r. ⌜ r ≡ decRow rows n (now (s .entry)) ++ replicate (64 - n) noRow ⌝ }
 {
@@ -130,11 +130,11 @@ pub fn read_rows(s: &[u8], n: u8) -> [Row; 64]
         district: District(0),
     };
     let none = Row {
-        phase: 0,
+        phase: house::START,
         local: no_stamp,
         global: no_stamp,
     };
-    let mut out = [none; 64];
+    let mut out = [none; house::JOBS];
     for i in 0..n {
         let k = i as usize;
         let at = k * 11;

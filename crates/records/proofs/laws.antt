@@ -9,3 +9,6 @@ pub mod Sections
 pub mod Lengths
 pub mod Shapes
 pub mod Carriers
+pub mod Obeys
+pub mod Rows
+pub mod Structs

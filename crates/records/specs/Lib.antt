@@ -1,4 +1,5 @@
--- Records: the format by kind, a record as a value and as a struct, its bytes, and the rules of its values (document 01, 'Records').
+-- Document 01, 'Records': the answers, the format by kind, a record as a value and as a struct, its rules, its bytes, and what reading
+-- and writing promise.
 pub mod Answers
 pub mod Format
 pub mod Rec
@@ -7,5 +8,3 @@ pub mod Fields
 pub mod Bytes
 pub mod Outcome
 pub mod Examples
-
--- A record's bytes: its sections for any codec, how long they are, and what the test of its shape says.

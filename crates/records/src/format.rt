@@ -120,8 +120,8 @@ pub fn no_record() -> Record
         from: BoxNo(0),
         to: BoxNo(0),
         job: house::NO_JOB,
-        ballots: [house::no_ballot(); 4],
+        ballots: [house::no_ballot(); house::DISTRICTS],
         stamps: [no_stamp, no_stamp],
-        table: [house::no_row(); 64],
+        table: [house::no_row(); house::JOBS],
     }
 }

@@ -13,14 +13,36 @@ use house::BoxNo;
 use house::Row;
 use house::Stamp;
 
+// the kinds of a record
+pub const MULTICAST: u8 = 1;
+
+pub const ACCEPT: u8 = 2;
+
+pub const ACCEPT_ACK: u8 = 3;
+
+pub const DELIVER: u8 = 4;
+
+pub const NEWLEADER: u8 = 5;
+
+pub const NEWLEADER_ACK: u8 = 6;
+
+pub const NEW_STATE: u8 = 7;
+
+pub const NEWSTATE_ACK: u8 = 8;
+
+// the most stamps that a record has
+pub const MOST_STAMPS: u8 = 2;
+
+pub const STAMPS: usize = MOST_STAMPS as usize;
+
 pub struct Record {
     pub kind: u8,
     pub from: BoxNo,
     pub to: BoxNo,
     pub job: u8,
-    pub ballots: [Ballot; 4],
-    pub stamps: [Stamp; 2],
-    pub table: [Row; 64],
+    pub ballots: [Ballot; house::DISTRICTS],
+    pub stamps: [Stamp; STAMPS],
+    pub table: [Row; house::JOBS],
 }
 
 // what a call answers: done, or the number of the refusal

@@ -16,6 +16,7 @@ use Rattle.boxes.specs.Sound.{sound}
 use Rattle.boxes.specs.Out.{Out, refused, does, recordsOf}
 use Rattle.boxes.specs.Post.{posts}
 use Rattle.boxes.specs.Retry.{retries}
+use Rattle.boxes.specs.Stand.{standing}
 use Rattle.boxes.specs.Cut.{cut}
 use Rattle.boxes.specs.Promise.{wasDone, boxAfter}
 use Rattle.boxes.specs.Step.{react}
@@ -24,7 +25,6 @@ use Rattle.boxes.specs.declared.Delivery.the-variants.{Nothing}
 use Rattle.sending.specs.Sends.{Sends}
 use Rattle.steps.specs.Acting.{Acting}
 use Rattle.steps.specs.Judged.{judged}
-use Rattle.steps.specs.Orders.{standing}
 use Rattle.rehearsal.specs.Night.{exists, ifFits}
 use Rattle.rehearsal.specs.Alone.{here, alone}
 use Rattle.rehearsal.specs.declared.Order.{Order}

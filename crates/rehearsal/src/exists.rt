@@ -5,7 +5,7 @@ ghost use mathlib.Core.Bool.{true, false};
 ghost use Prim.Native.Nat.{ℕ, _<_};
 ghost use Rattle.house.specs.Plan.{planSound};
 ghost use Rattle.boxes.specs.Sound.{sound};
-ghost use Rattle.stays_sound.specs.Sound.{Lengths};
+ghost use Rattle.boxes.specs.Lengths.{Lengths};
 ghost use Rattle.post.specs.Index.{Indexed};
 ghost use Rattle.rehearsal.specs.Night.{mostBoxes};
 ghost use Rattle.rehearsal.specs.Alone.{Found};

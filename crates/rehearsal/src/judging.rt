@@ -7,7 +7,7 @@ ghost use Prim.Native.Nat.{ℕ, _≤_};
 ghost use Rattle.house.specs.Plan.{planSound};
 ghost use Rattle.records.specs.Rec.{noRecord};
 ghost use Rattle.boxes.specs.Sound.{sound};
-ghost use Rattle.stays_sound.specs.Sound.{Lengths};
+ghost use Rattle.boxes.specs.Lengths.{Lengths};
 ghost use Rattle.post.specs.Posting.{mostPlace, startOf};
 ghost use Rattle.rehearsal.specs.Alone.{Starts};
 ghost use Rattle.rehearsal.specs.Steps.{Judges};

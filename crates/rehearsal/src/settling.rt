@@ -1,5 +1,5 @@
 // What an order does to its box and to the post, once nothing refuses it.
-// The definition, settled, stands in specs/Settled.antt.
+// The definition, Settles, stands in specs/Settled.antt.
 ghost use mathlib.Core.Path.{_≡_};
 ghost use mathlib.Core.Bool.{true};
 ghost use mathlib.Core.List.{List, []};

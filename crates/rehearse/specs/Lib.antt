@@ -1,3 +1,3 @@
--- Which bytes the rehearse program prints for an input, in whatever pieces it comes, what a run of the program is, and that it prints these bytes.
+-- Which bytes the rehearse program prints for an input, in whatever pieces it comes, and what a run of the program is.
 pub mod Printed
 pub mod Turns

@@ -1,5 +1,5 @@
 // The rehearse program: orders from standard input, an answer to each, and a report at the end.
-// What is fed, said and decided is proved; only the calls that read and write stay outside (crate printing, specs/Turns.antt, says what a run is).
+// What is fed, said and decided is proved; only the calls that read and write stay outside (specs/Turns.antt says what a run is).
 mod printing;
 
 ghost use Rattle.rehearse.specs.Turns.{OneTurn, Ran};

@@ -1,5 +1,5 @@
 -- DEMAND 3 of a rehearsal: any orders, any lent post, at every moment, over the boxes and the post's bytes. Its words stand in Words.
--- The statements are those of the crate demand3; nothing is proved here.
+-- The statements are those of the room in_order; nothing is proved here.
 use Prim.Native.Nat.{ℕ, _<_}
 use mathlib.Core.Bool.{true}
 use mathlib.Core.List.{List, _++_}

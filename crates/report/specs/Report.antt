@@ -1,5 +1,5 @@
 -- The lines of the report at the end, in ASCII, as document 01 states them; each ends by LF.
--- `item` is a space and a number (crate texts, specs/Texts.antt).
+-- `item` is a space and a number (specs/Texts.antt).
 use Prim.Native.Nat.{ℕ}
 use mathlib.Core.Bool.{Bool}
 use mathlib.Core.List.{List, [], _∷_, _++_}

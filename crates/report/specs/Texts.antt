@@ -1,5 +1,5 @@
 -- The answer to a line, in ASCII, as document 01 states it; it ends by LF.
--- `decimal` writes a number (crate words, specs/Numeral.antt).
+-- `decimal` writes a number (specs/Numeral.antt of lines).
 use Prim.Native.Nat.{ℕ}
 use mathlib.Core.Bool.{Bool}
 use mathlib.Core.List.{List, [], _∷_, _++_}

@@ -19,7 +19,7 @@ fn put_titled(word: &[u8; 3], n: u8, t: &mut [u8]) -> usize
 }
 
 // The first `count` jobs of a list, a space before each.
-fn put_jobs(list: [u8; 64], count: usize, t: &mut [u8]) -> usize
+fn put_jobs(list: [u8; house::JOBS], count: usize, t: &mut [u8]) -> usize
     requires { ⌜ (count ≤ 64) × (256 ≤ length (now t)) ⌝ }
     ensures { λ r. ⌜ (r ≤ 256) × (r ≡ length (jobsText list count)) × (now (t .exit) ≡ onto (jobsText list count) (now (t .entry))) ⌝ }
 {
@@ -32,7 +32,7 @@ fn put_jobs(list: [u8; 64], count: usize, t: &mut [u8]) -> usize
 }
 
 // ` list`, the jobs, and the end of the line.
-fn put_list(list: [u8; 64], count: usize, t: &mut [u8]) -> usize
+fn put_list(list: [u8; house::JOBS], count: usize, t: &mut [u8]) -> usize
     requires { ⌜ (count ≤ 64) × (262 ≤ length (now t)) ⌝ }
     ensures { λ r. ⌜ (r ≤ 262) × (r ≡ length (listText list count)) × (now (t .exit) ≡ onto (listText list count) (now (t .entry))) ⌝ }
 {
@@ -42,7 +42,7 @@ fn put_list(list: [u8; 64], count: usize, t: &mut [u8]) -> usize
 }
 
 // `box B list` and the jobs of the list.
-pub fn box_line(number: BoxNo, list: [u8; 64], count: usize, t: &mut [u8]) -> usize
+pub fn box_line(number: BoxNo, list: [u8; house::JOBS], count: usize, t: &mut [u8]) -> usize
     requires { ⌜ (count ≤ 64) × (boxMost ≤ length (now t)) ⌝ }
     ensures { λ r. ⌜ (r ≤ boxMost) × (r ≡ length (boxText (number .0) list count)) × (now (t .exit) ≡ onto (boxText (number .0) list count) (now (t .entry))) ⌝ }
 {

@@ -28,7 +28,13 @@ fn accept_obeys(plan: Plan, from: BoxNo, to: BoxNo, job: u8, b: Ballot, s: Stamp
         & (house::ballot_of(from, b) & (house::stamp_of(home, s) & house::named(plan, job, home)))
 }
 
-fn accept_ack_obeys(plan: Plan, from: BoxNo, to: BoxNo, job: u8, ballots: [Ballot; 4]) -> bool
+fn accept_ack_obeys(
+    plan: Plan,
+    from: BoxNo,
+    to: BoxNo,
+    job: u8,
+    ballots: [Ballot; house::DISTRICTS],
+) -> bool
     ensures { λ v. ⌜ v ≡ rules plan (accept-ack from to job ballots) ⌝ }
 {
     let home = house::home_of(plan, from);
@@ -65,7 +71,7 @@ pub fn newleader_ack_obeys(
     b: Ballot,
     cballot: Ballot,
     clock: Stamp,
-    table: [Row; 64],
+    table: [Row; house::JOBS],
 ) -> bool
     ensures { λ v. ⌜ v ≡ rules plan (newleader-ack from to (record { ballot = b; cballot = cballot; clock = clock; table = table })) ⌝ }
 {
@@ -81,7 +87,7 @@ fn new_state_obeys(
     to: BoxNo,
     b: Ballot,
     clock: Stamp,
-    table: [Row; 64],
+    table: [Row; house::JOBS],
 ) -> bool
     ensures { λ v. ⌜ v ≡ rules plan (new-state from to (record { ballot = b; clock = clock; table = table })) ⌝ }
 {
@@ -111,14 +117,14 @@ fn obeys(plan: Plan, r: Record) -> bool
     let s = stamps[0];
     let kind = r.kind;
     match kind {
-        1 => multicast_obeys(plan, from, to, r.job),
-        2 => accept_obeys(plan, from, to, r.job, b, s),
-        3 => accept_ack_obeys(plan, from, to, r.job, ballots),
-        4 => deliver_obeys(plan, from, to, r.job, b, s, stamps[1]),
-        5 => newleader_obeys(plan, from, to, b),
-        6 => newleader_ack_obeys(plan, from, to, b, ballots[1], s, table),
-        7 => new_state_obeys(plan, from, to, b, s, table),
-        8 => newstate_ack_obeys(plan, from, to, b),
+        records::MULTICAST => multicast_obeys(plan, from, to, r.job),
+        records::ACCEPT => accept_obeys(plan, from, to, r.job, b, s),
+        records::ACCEPT_ACK => accept_ack_obeys(plan, from, to, r.job, ballots),
+        records::DELIVER => deliver_obeys(plan, from, to, r.job, b, s, stamps[1]),
+        records::NEWLEADER => newleader_obeys(plan, from, to, b),
+        records::NEWLEADER_ACK => newleader_ack_obeys(plan, from, to, b, ballots[1], s, table),
+        records::NEW_STATE => new_state_obeys(plan, from, to, b, s, table),
+        records::NEWSTATE_ACK => newstate_ack_obeys(plan, from, to, b),
         _ => false,
     }
 }

@@ -30,7 +30,7 @@ pub fn are_others(plan: Plan, from: BoxNo, to: BoxNo) -> bool
 }
 
 // the ballot of a district, none behind the last
-pub fn ballot_at(ballots: [Ballot; 4], d: District) -> Ballot
+pub fn ballot_at(ballots: [Ballot; house::DISTRICTS], d: District) -> Ballot
     ensures { λ r. ⌜ r ≡ getD ballots (d .0) noBallot ⌝ }
 {
     if house::MOST_DISTRICTS <= d.0 {
@@ -41,7 +41,7 @@ pub fn ballot_at(ballots: [Ballot; 4], d: District) -> Ballot
 }
 
 // of a box of district d if the job names it, none if not
-fn ballot_for(plan: Plan, job: u8, ballots: [Ballot; 4], d: District) -> bool
+fn ballot_for(plan: Plan, job: u8, ballots: [Ballot; house::DISTRICTS], d: District) -> bool
     ensures { λ r. ⌜ r ≡ ballotFor plan job ballots (d .0) ⌝ }
 {
     let b = ballot_at(ballots, d);
@@ -51,7 +51,7 @@ fn ballot_for(plan: Plan, job: u8, ballots: [Ballot; 4], d: District) -> bool
     house::is_no_ballot(b)
 }
 
-pub fn ballots_for(plan: Plan, job: u8, ballots: [Ballot; 4], n: u8) -> bool
+pub fn ballots_for(plan: Plan, job: u8, ballots: [Ballot; house::DISTRICTS], n: u8) -> bool
     ensures { λ r. ⌜ r ≡ ballotsFor plan job ballots n ⌝ }
 {
     let mut ok = true;

@@ -28,7 +28,7 @@ pub fn start_row(row: Row) -> bool
 {
     let local = row.local;
     let global = row.global;
-    (row.phase == 0) & (house::is_no_stamp(local) & house::is_no_stamp(global))
+    (row.phase == house::START) & (house::is_no_stamp(local) & house::is_no_stamp(global))
 }
 
 // phases 1 and 2
@@ -37,7 +37,8 @@ fn open_row(d: District, row: Row) -> bool
 {
     let local = row.local;
     let global = row.global;
-    ((row.phase == 1) | (row.phase == 2)) & (house::stamp_of(d, local) & house::is_no_stamp(global))
+    ((row.phase == house::PROPOSED) | (row.phase == house::ACCEPTED))
+        & (house::stamp_of(d, local) & house::is_no_stamp(global))
 }
 
 fn done_row(plan: Plan, job: u8, d: District, row: Row) -> bool
@@ -45,7 +46,7 @@ fn done_row(plan: Plan, job: u8, d: District, row: Row) -> bool
 {
     let local = row.local;
     let global = row.global;
-    (row.phase == 3) & both_stamps(plan, job, d, local, global)
+    (row.phase == house::COMMITTED) & both_stamps(plan, job, d, local, global)
 }
 
 fn row_sound(plan: Plan, d: District, job: u8, row: Row) -> bool
@@ -55,7 +56,7 @@ fn row_sound(plan: Plan, d: District, job: u8, row: Row) -> bool
 }
 
 // the first n rows, each of its job; none stands behind the last
-pub fn rows_sound(plan: Plan, d: District, table: [Row; 64], n: u8) -> bool
+pub fn rows_sound(plan: Plan, d: District, table: [Row; house::JOBS], n: u8) -> bool
     ensures { λ r. ⌜ r ≡ rowsSound plan d table n ⌝ }
 {
     let mut ok = true;
@@ -71,7 +72,7 @@ pub fn rows_sound(plan: Plan, d: District, table: [Row; 64], n: u8) -> bool
 }
 
 // none of the first n rows is in phase 1
-pub fn none_proposed(table: [Row; 64], n: u8) -> bool
+pub fn none_proposed(table: [Row; house::JOBS], n: u8) -> bool
     ensures { λ r. ⌜ r ≡ noneProposed table n ⌝ }
 {
     let mut ok = true;
@@ -81,7 +82,7 @@ pub fn none_proposed(table: [Row; 64], n: u8) -> bool
         }
         let at = j as usize;
         let row = table[at];
-        ok = ok & !(row.phase == 1);
+        ok = ok & !(row.phase == house::PROPOSED);
     }
     ok
 }

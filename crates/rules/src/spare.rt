@@ -10,11 +10,11 @@ use house::Stamp;
 use records::Record;
 
 // no ballot from place n on
-fn spare_ballots(ballots: [Ballot; 4], n: u8) -> bool
+fn spare_ballots(ballots: [Ballot; house::DISTRICTS], n: u8) -> bool
     ensures { λ r. ⌜ r ≡ spareBallots ballots n ⌝ }
 {
     let mut ok = true;
-    for i in 0..4u8 {
+    for i in 0..house::MOST_DISTRICTS {
         let at = i as usize;
         let b = ballots[at];
         ok = ok & ((i < n) | house::is_no_ballot(b));
@@ -22,11 +22,11 @@ fn spare_ballots(ballots: [Ballot; 4], n: u8) -> bool
     ok
 }
 
-fn spare_stamps(stamps: [Stamp; 2], n: u8) -> bool
+fn spare_stamps(stamps: [Stamp; records::STAMPS], n: u8) -> bool
     ensures { λ r. ⌜ r ≡ spareStamps stamps n ⌝ }
 {
     let mut ok = true;
-    for i in 0..2u8 {
+    for i in 0..records::MOST_STAMPS {
         let at = i as usize;
         let s = stamps[at];
         ok = ok & ((i < n) | house::is_no_stamp(s));
@@ -34,11 +34,11 @@ fn spare_stamps(stamps: [Stamp; 2], n: u8) -> bool
     ok
 }
 
-pub fn spare_rows(table: [Row; 64], n: u8) -> bool
+pub fn spare_rows(table: [Row; house::JOBS], n: u8) -> bool
     ensures { λ r. ⌜ r ≡ spareRows table n ⌝ }
 {
     let mut ok = true;
-    for i in 0..64u8 {
+    for i in 0..house::MOST_JOBS {
         let at = i as usize;
         let row = table[at];
         ok = ok & ((i < n) | rows::start_row(row));

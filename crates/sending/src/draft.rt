@@ -6,8 +6,6 @@ ghost use Rattle.boxes.specs.Box.{ownOf, rowAt};
 ghost use Rattle.boxes.specs.Accept.{keptFor, keptVector};
 ghost use Rattle.boxes.specs.Newleader.{clockStamp, voteFor};
 ghost use Prim.Native.Nat.{_<_};
-ghost use Rattle.house.specs.Limits.{noJob};
-ghost use Rattle.house.specs.Pairs.{noStamp};
 ghost use Rattle.boxes.specs.Stand.{nextBallot};
 use boxes::BoxState;
 use house::Ballot;
@@ -18,14 +16,14 @@ use house::Row;
 use house::Stamp;
 use records::Record;
 
-// a record with one ballot, two stamps and no table; none stands for what its kind has no use for
+// a record with one ballot, two stamps and no table; none stands for what its kind has no use for. All kinds begin with it
 fn draft(kind: u8, from: BoxNo, to: BoxNo, job: u8, b: Ballot, s: Stamp, t: Stamp) -> Record
     ensures { λ r. ⌜ r ≡ record { kind = kind; from = from; to = to; job = job; ballots = oneBallot b; stamps = twoStamps s t; table = noRows } ⌝ }
 {
     let none = house::no_ballot();
     let ballots = [b, none, none, none];
     let stamps = [s, t];
-    let table = [house::no_row(); 64];
+    let table = [house::no_row(); house::JOBS];
     Record {
         kind: kind,
         from: from,
@@ -41,7 +39,15 @@ pub fn multicast_record(from: BoxNo, to: BoxNo, job: u8) -> Record
     ensures { λ r. ⌜ r ≡ carried (multicast from to job) ⌝ }
 {
     let none = house::no_stamp();
-    draft(1, from, to, job, house::no_ballot(), none, none)
+    draft(
+        records::MULTICAST,
+        from,
+        to,
+        job,
+        house::no_ballot(),
+        none,
+        none,
+    )
 }
 
 // the stored stamp
@@ -53,7 +59,7 @@ pub fn accept_record(x: BoxState, to: BoxNo, job: u8) -> Record
     let b = c.cballot;
     let row = boxes::row_at(x, job);
     let s = row.local;
-    draft(2, own, to, job, b, s, house::no_stamp())
+    draft(records::ACCEPT, own, to, job, b, s, house::no_stamp())
 }
 
 // the ballot kept for a named district, none for another
@@ -66,7 +72,7 @@ fn kept_for(plan: Plan, x: BoxState, job: u8, d: District) -> Ballot
     house::no_ballot()
 }
 
-fn kept_vector(plan: Plan, x: BoxState, job: u8) -> [Ballot; 4]
+fn kept_vector(plan: Plan, x: BoxState, job: u8) -> [Ballot; house::DISTRICTS]
     ensures { λ r. ⌜ r ≡ keptVector plan x job ⌝ }
 {
     let b0 = kept_for(plan, x, job, District(0));
@@ -83,7 +89,15 @@ pub fn ack_record(plan: Plan, x: BoxState, to: BoxNo, job: u8) -> Record
     let own = c.own;
     let none = house::no_stamp();
     let ballots = kept_vector(plan, x, job);
-    let mut r = draft(3, own, to, job, house::no_ballot(), none, none);
+    let mut r = draft(
+        records::ACCEPT_ACK,
+        own,
+        to,
+        job,
+        house::no_ballot(),
+        none,
+        none,
+    );
     r.ballots = ballots;
     r
 }
@@ -93,7 +107,7 @@ pub fn deliver_record(from: BoxNo, to: BoxNo, job: u8, b: Ballot, row: Row) -> R
 {
     let s = row.local;
     let t = row.global;
-    draft(4, from, to, job, b, s, t)
+    draft(records::DELIVER, from, to, job, b, s, t)
 }
 
 // the own clock as a stamp of the own district
@@ -118,19 +132,20 @@ pub fn vote_record(plan: Plan, x: BoxState, to: BoxNo, b: Ballot) -> Record
     let cballot = c.cballot;
     let table = c.table;
     let clock = clock_stamp(plan, x);
-    let no_ballot = house::no_ballot();
-    let no_stamp = house::no_stamp();
-    let ballots = [b, cballot, no_ballot, no_ballot];
-    let stamps = [clock, no_stamp];
-    Record {
-        kind: 6,
-        from: own,
-        to: to,
-        job: house::NO_JOB,
-        ballots: ballots,
-        stamps: stamps,
-        table: table,
-    }
+    let none = house::no_ballot();
+    let ballots = [b, cballot, none, none];
+    let mut r = draft(
+        records::NEWLEADER_ACK,
+        own,
+        to,
+        house::NO_JOB,
+        b,
+        clock,
+        house::no_stamp(),
+    );
+    r.ballots = ballots;
+    r.table = table;
+    r
 }
 
 // 7 NEW_STATE as the leader to be sends it
@@ -139,43 +154,20 @@ pub fn new_state_record(plan: Plan, x: BoxState, to: BoxNo) -> Record
 {
     let c = x.core;
     let own = c.own;
-    let ballot = c.ballot;
+    let b = c.ballot;
     let table = c.table;
     let clock = clock_stamp(plan, x);
-    let no_ballot = house::no_ballot();
-    let no_stamp = house::no_stamp();
-    let ballots = [ballot, no_ballot, no_ballot, no_ballot];
-    let stamps = [clock, no_stamp];
-    Record {
-        kind: 7,
-        from: own,
-        to: to,
-        job: house::NO_JOB,
-        ballots: ballots,
-        stamps: stamps,
-        table: table,
-    }
-}
-
-// a record of one ballot and no more: kinds 5 and 8
-fn ballot_record(kind: u8, from: BoxNo, to: BoxNo, b: Ballot) -> Record
-    ensures { λ r. ⌜ r ≡ record { kind = kind; from = from; to = to; job = noJob; ballots = oneBallot b; stamps = twoStamps noStamp noStamp; table = noRows } ⌝ }
-{
-    let no_ballot = house::no_ballot();
-    let no_stamp = house::no_stamp();
-    let no_row = house::no_row();
-    let ballots = [b, no_ballot, no_ballot, no_ballot];
-    let stamps = [no_stamp, no_stamp];
-    let table = [no_row; 64];
-    Record {
-        kind: kind,
-        from: from,
-        to: to,
-        job: house::NO_JOB,
-        ballots: ballots,
-        stamps: stamps,
-        table: table,
-    }
+    let mut r = draft(
+        records::NEW_STATE,
+        own,
+        to,
+        house::NO_JOB,
+        b,
+        clock,
+        house::no_stamp(),
+    );
+    r.table = table;
+    r
 }
 
 // 8 NEWSTATE_ACK as a follower sends it
@@ -184,7 +176,8 @@ pub fn newstate_ack_record(x: BoxState, to: BoxNo, b: Ballot) -> Record
 {
     let c = x.core;
     let own = c.own;
-    ballot_record(8, own, to, b)
+    let none = house::no_stamp();
+    draft(records::NEWSTATE_ACK, own, to, house::NO_JOB, b, none, none)
 }
 
 // 5 NEWLEADER with (ballot number + 1, own)
@@ -199,5 +192,6 @@ pub fn stand_record(x: BoxState, to: BoxNo) -> Record
         number: ballot.number + 1,
         owner: own,
     };
-    ballot_record(5, own, to, next)
+    let none = house::no_stamp();
+    draft(records::NEWLEADER, own, to, house::NO_JOB, next, none, none)
 }

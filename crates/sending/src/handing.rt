@@ -23,7 +23,7 @@ use house::Row;
 
 // the sent flags after handing out, and what was written
 pub struct Handed {
-    pub sent: [bool; 64],
+    pub sent: [bool; house::JOBS],
     pub used: usize,
     pub records: u16,
 }

@@ -17,7 +17,7 @@ use house::Stamp;
 fn row_open(row: Row) -> bool
     ensures { λ r. ⌜ r ≡ eqb (row .phase) 1 || eqb (row .phase) 2 ⌝ }
 {
-    (row.phase == 1) | (row.phase == 2)
+    (row.phase == house::PROPOSED) | (row.phase == house::ACCEPTED)
 }
 
 pub fn is_open(x: BoxState, job: u8) -> bool
@@ -28,7 +28,7 @@ pub fn is_open(x: BoxState, job: u8) -> bool
 }
 
 // every open job has a larger local stamp than this one
-fn open_above(table: [Row; 64], n: usize, s: Stamp) -> bool
+fn open_above(table: [Row; house::JOBS], n: usize, s: Stamp) -> bool
     requires { ⌜ n ≤ 64 ⌝ }
     ensures { λ r. ⌜ ((P : Plan) (x : BoxState) → P .jobs ≡ n → x .core .table ≡ table → r ≡ openAbove P x s) ⌝ }
 {
@@ -42,7 +42,7 @@ fn open_above(table: [Row; 64], n: usize, s: Stamp) -> bool
 }
 
 // the next ready job, 255 for none; the open jobs are gone through only for one that waits and is before the best so far
-pub fn next_ready(table: [Row; 64], sent: [bool; 64], n: usize) -> u8
+pub fn next_ready(table: [Row; house::JOBS], sent: [bool; house::JOBS], n: usize) -> u8
     requires { ⌜ n ≤ 64 ⌝ }
     ensures { λ r. ⌜ ((P : Plan) (x : BoxState) → P .jobs ≡ n → x .core .table ≡ table → x .core .sent ≡ sent → r ≡ nextReady P x) × ((r ≡ noJob) ⊎ (r < n)) ⌝ }
 {
@@ -51,7 +51,7 @@ pub fn next_ready(table: [Row; 64], sent: [bool; 64], n: usize) -> u8
     for j in 0..n {
         let row = table[j];
         let s = row.global;
-        let waits = (row.phase == 3) & !sent[j];
+        let waits = (row.phase == house::COMMITTED) & !sent[j];
         if waits & ((best == house::NO_JOB) | house::stamp_below(s, least)) {
             if open_above(table, n, s) {
                 best = j as u8;

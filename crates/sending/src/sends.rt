@@ -19,15 +19,15 @@ fn goes_to(plan: Plan, r: Record, p: BoxNo) -> bool
     let home = house::home_of(plan, p);
     let from = r.from;
     let ballots = r.ballots;
-    if r.kind <= 2 {
+    if r.kind <= records::ACCEPT {
         return house::named(plan, r.job, home);
     }
-    if r.kind == 3 {
+    if r.kind == records::ACCEPT_ACK {
         let b = rules::ballot_at(ballots, home);
         let leader = b.owner;
         return house::named(plan, r.job, home) & (leader.0 == p.0);
     }
-    house::same_home(plan, p, from) & (!(r.kind == 7) | !(p.0 == from.0))
+    house::same_home(plan, p, from) & (!(r.kind == records::NEW_STATE) | !(p.0 == from.0))
 }
 
 // the record to each box that is meant, by rising box number: one copy of it, which names the box in turn

@@ -1,4 +1,4 @@
--- A session reads bytes (crate lines, specs/Feed.antt), and the order of each line acts on the world (crate answering, specs/World.antt).
+-- A session reads bytes (specs/Feed.antt of lines), and the order of each line acts on the world (specs/World.antt).
 use Prim.Native.Nat.{ℕ}
 use mathlib.Core.List.{List, []}
 use lib.ListN.{length}

@@ -1,5 +1,5 @@
 -- A world is what the lines of the input before lead to: the desk, the night, the post and all the text printed so far. The order of a line,
--- in a world, does what crate hearing says.
+-- in a world, does what specs/Heard.antt says.
 use Prim.Native.Nat.{ℕ}
 use mathlib.Core.List.{List, _++_}
 use Rattle.lines.specs.declared.Order.{Order}

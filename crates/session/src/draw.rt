@@ -23,7 +23,7 @@ pub fn empty_desk() -> Desk
         plan: Plan {
             districts: 0,
             jobs: 0,
-            masks: [0; 64],
+            masks: [0; house::JOBS],
         },
         drawn: false,
         fixed: false,

@@ -1,4 +1,3 @@
--- The list of a box as an array: the tests of specs/Sound.antt of the crate boxes, over what each of them reads.
+-- The tests of a sound box place by place, as the code goes through them.
 pub mod Lists
--- The volatile part of a box: the tests of specs/Sound.antt of the crate boxes, over what each of them reads.
 pub mod Pairs

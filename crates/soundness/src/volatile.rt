@@ -10,9 +10,6 @@ use house::District;
 use house::Plan;
 use house::Stamp;
 
-// an ACCEPT is kept for each job and district, job by job
-const MOST_KEPT: usize = (house::MOST_JOBS as usize) * (house::MOST_DISTRICTS as usize);
-
 // an ACCEPT kept for a named district, or none: most places have none, and nothing more is asked of them
 fn pair_sound(plan: Plan, job: u8, d: District, b: Ballot, s: Stamp) -> bool
     ensures { λ r. ⌜ r ≡ pairSound plan job d b s ⌝ }
@@ -31,7 +28,7 @@ pub fn kept_sound(plan: Plan, x: BoxState) -> bool
     let stamps = v.kept_stamps;
     let n = house::MOST_DISTRICTS as usize;
     let mut ok = true;
-    for at in 0..MOST_KEPT {
+    for at in 0..house::PAIRS {
         let b = ballots[at];
         let s = stamps[at];
         let job = (at / n) as u8;

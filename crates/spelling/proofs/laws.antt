@@ -2,6 +2,5 @@
 pub mod Filled
 pub mod Fits
 pub mod Round
-pub mod Meanings
 pub mod Readback
 pub mod Sizes

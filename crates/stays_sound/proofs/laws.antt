@@ -1,10 +1,6 @@
 -- The laws of stays_sound.
 pub mod Laws
-pub mod Rows
-pub mod Obeys
-pub mod Parts
 pub mod Listing
-pub mod Sound
 pub mod Fresh
 pub mod Sends
 pub mod Size
@@ -15,5 +11,4 @@ pub mod Merge
 pub mod Leads
 pub mod KeptStamps
 pub mod Jobs
-pub mod Structs
 pub mod Steps

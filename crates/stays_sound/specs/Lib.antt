@@ -1,7 +1,2 @@
 -- What every step keeps: a box stays sound, its records obey the rules and fit into the tray (document 01, 'A box', 'Records').
-pub mod Rows
-pub mod Obeys
-pub mod Parts
-pub mod Listing
-pub mod Sound
 pub mod Size

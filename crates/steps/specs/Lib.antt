@@ -1,5 +1,4 @@
--- A record that is acted on: what is known of it, its answer, and which kind's step it is; and what owning a box says.
+-- A record of any kind: how it is answered, and what a step of it needs.
 pub mod Acting
 pub mod Judged
 pub mod Judging
-pub mod Orders

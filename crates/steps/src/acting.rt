@@ -28,20 +28,20 @@ pub fn act(plan: Plan, x: BoxState, r: Record, tray: &mut [u8]) -> Outcome
     let s = stamps[0];
     let k = r.kind;
     match k {
-        1 => jobs::do_multicast(plan, x, job, tray),
-        2 => jobs::do_accept(plan, x, from, job, b, s, tray),
-        3 => jobs::do_accept_ack(plan, x, from, job, ballots, tray),
-        4 => {
+        records::MULTICAST => jobs::do_multicast(plan, x, job, tray),
+        records::ACCEPT => jobs::do_accept(plan, x, from, job, b, s, tray),
+        records::ACCEPT_ACK => jobs::do_accept_ack(plan, x, from, job, ballots, tray),
+        records::DELIVER => {
             let t = stamps[1];
             jobs::do_deliver(plan, x, job, b, s, t)
         }
-        5 => leaders::do_newleader(plan, x, from, b, tray),
-        6 => {
+        records::NEWLEADER => leaders::do_newleader(plan, x, from, b, tray),
+        records::NEWLEADER_ACK => {
             let cb = ballots[1];
             let table = r.table;
             leaders::do_newleader_ack(plan, x, from, b, cb, s, table, tray)
         }
-        7 => {
+        records::NEW_STATE => {
             let table = r.table;
             leaders::do_new_state(plan, x, from, b, s, table, tray)
         }

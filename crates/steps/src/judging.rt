@@ -32,9 +32,9 @@ fn judge_job(plan: Plan, x: BoxState, r: Record) -> Answer
     let s = stamps[0];
     let k = r.kind;
     match k {
-        1 => jobs::decide_multicast(plan, x, job),
-        2 => jobs::decide_accept(plan, x, from, job, b, s),
-        3 => jobs::decide_accept_ack(plan, x, from, job, ballots),
+        records::MULTICAST => jobs::decide_multicast(plan, x, job),
+        records::ACCEPT => jobs::decide_accept(plan, x, from, job, b, s),
+        records::ACCEPT_ACK => jobs::decide_accept_ack(plan, x, from, job, ballots),
         _ => {
             let global = stamps[1];
             jobs::decide_deliver(plan, x, job, b, global)
@@ -52,9 +52,9 @@ fn judge_leader(x: BoxState, r: Record) -> Answer
     let b = ballots[0];
     let k = r.kind;
     match k {
-        5 => leaders::decide_newleader(x, b),
-        6 => leaders::decide_newleader_ack(x, from, b),
-        7 => leaders::decide_new_state(x, b),
+        records::NEWLEADER => leaders::decide_newleader(x, b),
+        records::NEWLEADER_ACK => leaders::decide_newleader_ack(x, from, b),
+        records::NEW_STATE => leaders::decide_new_state(x, b),
         _ => leaders::decide_newstate_ack(x, b),
     }
 }
@@ -64,7 +64,7 @@ fn judge(plan: Plan, x: BoxState, r: Record) -> Answer
     requires { ⌜ (1 ≤ r .kind) × (r .kind ≤ mostKind) ⌝ }
     ensures { λ a. ⌜ a ≡ judged plan x (meaning r) ⌝ }
 {
-    if r.kind <= 4 {
+    if r.kind <= records::DELIVER {
         return judge_job(plan, x, r);
     }
     judge_leader(x, r)

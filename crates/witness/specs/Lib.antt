@@ -1,4 +1,4 @@
--- That demand 3 is not empty: sessions of the program as computed runs of the world that it speaks of. And what a run would be that breaks it.
+-- The plans and orders of two nights, and the world after them.
 pub mod Played
 pub mod Lists
 pub mod Example

@@ -66,7 +66,7 @@ pub fn put_head(t: &mut [u8], r: Record) -> usize
 }
 
 // a count, and so many ballots
-pub fn put_ballots(t: &mut [u8], l: [Ballot; 4], n: u8) -> usize
+pub fn put_ballots(t: &mut [u8], l: [Ballot; house::DISTRICTS], n: u8) -> usize
     requires { ⌜ (n ≤ 4) × (1 + n * 3 ≤ length (now t)) ⌝ }
     ensures { λ u. ⌜ (u ≡ 1 + n * 3) × (now (t .exit) ≡ onto (section n (encRow ballots (take n l))) (now (t .entry))) ⌝ }
 {
@@ -81,7 +81,7 @@ pub fn put_ballots(t: &mut [u8], l: [Ballot; 4], n: u8) -> usize
     used
 }
 
-pub fn put_stamps(t: &mut [u8], l: [Stamp; 2], n: u8) -> usize
+pub fn put_stamps(t: &mut [u8], l: [Stamp; records::STAMPS], n: u8) -> usize
     requires { ⌜ (n ≤ 2) × (1 + n * 5 ≤ length (now t)) ⌝ }
     ensures { λ u. ⌜ (u ≡ 1 + n * 5) × (now (t .exit) ≡ onto (section n (encRow stamps (take n l))) (now (t .entry))) ⌝ }
 {
@@ -96,7 +96,7 @@ pub fn put_stamps(t: &mut [u8], l: [Stamp; 2], n: u8) -> usize
     used
 }
 
-pub fn put_rows(t: &mut [u8], l: [Row; 64], n: u8) -> usize
+pub fn put_rows(t: &mut [u8], l: [Row; house::JOBS], n: u8) -> usize
     requires { ⌜ (n ≤ 64) × (1 + n * 11 ≤ length (now t)) ⌝ }
     ensures { λ u. ⌜ (u ≡ 1 + n * 11) × (now (t .exit) ≡ onto (section n (encRow rows (take n l))) (now (t .entry))) ⌝ }
 {

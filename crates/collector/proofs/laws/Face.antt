@@ -26,8 +26,8 @@ use Rattle.records.specs.declared.Record.{Record}
 use Rattle.boxes.specs.Box.{ownOf}
 use Rattle.boxes.specs.Sound.{sound}
 use Rattle.boxes.specs.Out.{Out, refused, does, guard, toEach, resultOf, under}
-use Rattle.boxes.specs.Retry.{retries, retry}
-use Rattle.boxes.specs.Stand.{nextBallot, stand}
+use Rattle.boxes.specs.Retry.{retries, retry, retryAnswer}
+use Rattle.boxes.specs.Stand.{nextBallot, standing, stand, standAnswer}
 use Rattle.boxes.specs.Promise.{Stepped}
 use Rattle.boxes.proofs.laws.Promise.{stepped}
 use Rattle.boxes.specs.Step.{takes, receives, postNo, mayPost, retried, stood}
@@ -36,9 +36,8 @@ use Rattle.boxes.specs.declared.Delivery.the-variants.{Nothing}
 use Rattle.boxes.specs.declared.Outcome.{Outcome}
 use Rattle.stays_sound.proofs.laws.Sends.{Sized, in-each, each-most}
 use Rattle.stays_sound.proofs.laws.Size.{sizeOfRec, record-size, few-most}
-use Rattle.steps.proofs.laws.Judging.{sound-plan}
-use Rattle.steps.specs.Orders.{standing}
-use Rattle.steps.proofs.laws.Orders.{judgedRetry, judgedStand, retry-is, stand-is}
+use Rattle.boxes.proofs.laws.Sound.{sound-plan}
+use Rattle.boxes.proofs.laws.Answers.{retry-is, stand-is}
 use Rattle.sending.specs.Sends.{Sends, sentBytes, sentCount}
 use Rattle.sending.proofs.laws.Sends.{encode-none}
 use Rattle.sending.specs.declared.Sent.{Sent}
@@ -103,7 +102,7 @@ module _ (P : Plan) (x : BoxState) {known : Bool} {room : ℕ} (k : known ≡ so
   unfolding retried
   retry-no j e = answering-no (retry P x j) (retries P x j) e
 
-  pub retry-on : (j : ℕ) {a : Answer} → admission known room ≡ Done → a ≡ judgedRetry P x j
+  pub retry-on : (j : ℕ) {a : Answer} → admission known room ≡ Done → a ≡ retryAnswer P x j
       → Answering P x (retried P x j room) (retries P x j) room a
   unfolding retried
   retry-on j e d = answering (retry P x j) (retries P x j) e (retry-is P x j (sym d))
@@ -112,7 +111,7 @@ module _ (P : Plan) (x : BoxState) {known : Bool} {room : ℕ} (k : known ≡ so
   unfolding stood
   stand-no e = answering-no (stand P x) (standing P x) e
 
-  pub stand-on : {a : Answer} → admission known room ≡ Done → a ≡ judgedStand x → Answering P x (stood P x room) (standing P x) room a
+  pub stand-on : {a : Answer} → admission known room ≡ Done → a ≡ standAnswer x → Answering P x (stood P x room) (standing P x) room a
   unfolding stood
   stand-on e d = answering (stand P x) (standing P x) e (stand-is P x (sym d))
 

@@ -18,23 +18,22 @@ use Rattle.records.specs.Bytes.{encodeAll, shaped, parse}
 use Rattle.records.proofs.laws.Outcome.{read-promised}
 use Rattle.records.specs.declared.Answer.{Answer}
 use Rattle.records.specs.declared.Answer.the-variants.{Done, No}
+use Rattle.records.proofs.laws.Lengths.{parse-arrays}
+use Rattle.spelling.proofs.laws.Readback.{read-encoded}
 use Rattle.boxes.specs.Sound.{sound}
 use Rattle.boxes.specs.Out.{Out, refused, does, recordsOf}
 use Rattle.boxes.specs.Step.{receives, mayPost}
 use Rattle.boxes.specs.Promise.{Says, Stepped, boxAfter}
 use Rattle.boxes.specs.declared.BoxState.{BoxState}
 use Rattle.boxes.specs.declared.Outcome.{Outcome}
-use Rattle.spelling.proofs.laws.Readback.{read-encoded}
-use Rattle.spelling.proofs.laws.Round.{parse-arrays}
-use Rattle.stays_sound.specs.Sound.{Lengths}
-use Rattle.stays_sound.proofs.laws.Sound.{sound-is}
+use Rattle.boxes.specs.Lengths.{Lengths}
+use Rattle.boxes.proofs.laws.Sound.{sound-is, sound-plan}
 use Rattle.stays_sound.proofs.laws.Fresh.{fresh-is-sound, fresh-lengths}
-use Rattle.stays_sound.proofs.laws.Sends.{Every, no-step, a-step, every-guard, Sized, AllGood, good-nil}
+use Rattle.stays_sound.proofs.laws.Sends.{Every, no-step, a-step, every-guard, Sized, arrays, AllGood, good-nil}
 use Rattle.stays_sound.specs.Size.{longestOutput}
 use Rattle.stays_sound.proofs.laws.Goods.{Keeps, fits-none}
 use Rattle.stays_sound.proofs.laws.Steps.{takes-every, retried-every, stood-every, cut-off-every, posts-good, posts-fit}
 use Rattle.world.proofs.laws.Boxes.{good-box}
-use Rattle.steps.proofs.laws.Judging.{sound-plan}
 use Rattle.collector.specs.Promises.{BytesReceived, JobRetried, BoxStood, BoxCut, JobPosted}
 use Rattle.collector.specs.declared.Posted.{Posted}
 use Rattle.collector.specs.Leaves.{Sent, Stays, Face}
@@ -49,7 +48,7 @@ sent {P} {from} {l} count used before tray s G f c u t =
       all = c;
       bytes = rw t (onto-front (encodeAll P l) before used u);
       fit = omega arith;
-      read = λ m i. let g = G .each m i in read-promised (sym (read-encoded P (carried m) s (record { four = g .sized .ballots; two = g .sized .stamps; many = g .sized .table }) (g .is-valid)));
+      read = λ m i. let g = G .each m i in read-promised (sym (read-encoded P (carried m) s (arrays (g .sized)) (g .is-valid)));
       addressed = λ m i. let g = G .each m i in record { sender = g .by; addressee = good-box s g; named = g .named; obeys = g .is-valid };
     }
 

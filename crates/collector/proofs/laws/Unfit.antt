@@ -29,7 +29,7 @@ use Rattle.boxes.specs.declared.Outcome.{Outcome}
 use Rattle.boxes.specs.declared.Delivery.the-variants.{Nothing}
 use Rattle.records.proofs.laws.Lengths.{Arrays}
 use Rattle.spelling.proofs.laws.Round.{parse-encode, encode-shaped}
-use Rattle.stays_sound.proofs.laws.Obeys.{valid-is}
+use Rattle.records.proofs.laws.Obeys.{valid-is}
 use Rattle.stays_sound.proofs.laws.Fresh.{fresh-is-sound}
 use Rattle.stays_sound.proofs.laws.Size.{record-size}
 use Rattle.collector.specs.Promises.{BytesReceived}

@@ -1,7 +1,7 @@
 -- `collector::receive` meets its contract.
 use Rattle.collector.proofs.laws.Face.{two-go, refusing, receives-refused}
 use Rattle.steps.specs.Judging.{Judging}
-use Rattle.steps.proofs.laws.Judging.{sound-plan}
+use Rattle.boxes.proofs.laws.Sound.{sound-plan}
 use Rattle.boxes.proofs.laws.Promise.{stepped}
 use Rattle.boxes.specs.Sound.{sound}
 use Rattle.house.specs.Limits.{leastTray}

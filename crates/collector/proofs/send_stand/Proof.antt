@@ -1,6 +1,6 @@
 -- `collector::send_stand` meets its contract.
 use Rattle.collector.proofs.laws.Face.{none-written, all-written, standing-fits}
-use Rattle.steps.specs.Orders.{standing}
+use Rattle.boxes.specs.Stand.{standing}
 use Rattle.steps.proofs.laws.Orders.{standing-sent}
 use Rattle.sending.specs.Sends.{Sends}
 use native.Mathlib.Omega.{arith}

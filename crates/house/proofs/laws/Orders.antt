@@ -71,9 +71,17 @@ pub no-stamp-says : (s : Stamp) → isNoStamp s ≡ true → s ≡ noStamp
 unfolding isNoStamp
 no-stamp-says s h = stampOrder .eq-says s noStamp h
 
+pub no-stamp-is : isNoStamp noStamp ≡ true
+unfolding isNoStamp sameStamp
+no-stamp-is = refl
+
 pub no-ballot-says : (b : Ballot) → isNoBallot b ≡ true → b ≡ noBallot
 unfolding isNoBallot
 no-ballot-says b h = ballotOrder .eq-says b noBallot h
+
+pub no-ballot-is : isNoBallot noBallot ≡ true
+unfolding isNoBallot sameBallot
+no-ballot-is = refl
 
 pub record RealStamp (s : Stamp) : Type 0 where
   pub some-time : 1 ≤ s .time

@@ -9,7 +9,7 @@ use lib.ListN.{getD}
 use lib.Dec.{leb, ltb, eqb}
 use borrow.Author.Tests.{leb-true, ltb-true, ltb-false, eqb-true, lt-ltb, le-ltb, eq-eqb}
 use Rattle.laws.specs.Choice.{pick-true, pick-false, and-left, and-right, and-both}
-use Rattle.laws.proofs.laws.Choice.{look, never, or-cases}
+use Rattle.laws.proofs.laws.Choice.{look, never, or-cases, not-so}
 use Rattle.laws.proofs.laws.Fold.{all-says}
 use Rattle.laws.specs.Digits.{digit}
 use Rattle.laws.proofs.laws.Digits.{digit-zero, digit-beyond}
@@ -175,3 +175,11 @@ stamp-named-says P j s h =
 pub stamp-named-is : (P : Plan) (j : ℕ) (s : Stamp) → RealStamp s → names P j (s .district) ≡ true → stampNamed P j s ≡ true
 unfolding stampNamed
 stamp-named-is P j s R n = and-both (realStamp s) (names P j (s .district)) (real-stamp-is s R) n
+
+-- a district behind the plan's is not named
+pub no-district : (P : Plan) (j d : ℕ) → planSound P ≡ true → P .districts ≤ d → names P j (district d) ≡ false
+no-district P j d s h = not-so (names P j (district d)) (λ n. omega (arith, names-district P j (district d) s n))
+
+-- a number that is no job names nothing
+pub no-name : (P : Plan) (j : ℕ) (d : District) → P .jobs ≤ j → names P j d ≡ false
+no-name P j d h = not-so (names P j d) (λ n. omega (arith, names-job P j d n))

@@ -24,8 +24,9 @@ use Rattle.in_order.proofs.laws.Compare.{eq-le}
 use Rattle.in_order.proofs.laws.Laws.{real-some, Latest, nowhere, somewhere, latest-is, latest-most}
 use Rattle.in_order.proofs.laws.Notions.{the, Acc, Ack, Part, Cert, Final}
 use Rattle.in_order.proofs.laws.Inv.{Inv}
-use Rattle.in_order.proofs.laws.Moves.{Acking, Move, marks, box}
+use Rattle.in_order.proofs.laws.Moves.{Acking, Move, marks}
 use Rattle.in_order.proofs.laws.StepVolatile.{mark-v2}
+use Rattle.in_order.proofs.laws.Facts.{leads-own}
 
 module _ (P : Plan) (w : World) (p : BoxNo) (known : p .0 < boxesOf P) (m : Move P w p) (I : Inv P w) (a : Acking P w p) (full : enough P (marks P w p a) (a .j) ≡ true) where
   pub own-mark : Ack P (w .post) p (a .j) (keptBallot (the w p) (a .j))
@@ -73,7 +74,7 @@ module _ (P : Plan) (w : World) (p : BoxNo) (known : p .0 < boxesOf P) (m : Move
         named = a .named;
         below = eq-le ballotOrder kept-own;
         local = kept-acc (homeIn P (the w p)) (a .named);
-        own = rw (ap (λ (b : Ballot). b .owner) kept-own ∙ a .sound .leads-own (a .lead) ∙ I .forms .box p known .own) own-mark;
+        own = rw (ap (λ (b : Ballot). b .owner) kept-own ∙ leads-own (a .sound) (a .lead) ∙ I .forms .box p known .own) own-mark;
       }
 
   -- the own acknowledgement: the clock is not below the own kept stamp

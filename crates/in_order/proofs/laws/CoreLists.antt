@@ -32,6 +32,7 @@ use Rattle.boxes.specs.Retry.{retry}
 use Rattle.boxes.specs.Stand.{stand}
 use Rattle.boxes.specs.Cut.{cut}
 use Rattle.boxes.specs.Step.{react, takes, retried, stood, cutOff}
+use Rattle.boxes.proofs.laws.Answers.{under-or}
 use Rattle.boxes.specs.declared.BoxState.{BoxState}
 use Rattle.boxes.specs.declared.Delivery.{Delivery}
 use Rattle.boxes.specs.declared.Delivery.the-variants.{Nothing}
@@ -92,46 +93,52 @@ fair-hand P x y S =
 -- 1 MULTICAST
 fair-multicast : (P : Plan) (x : BoxState) (j : ℕ) → Fair x (onMulticast P x j)
 unfolding onMulticast proposed
-fair-multicast P x j = fair-guard _ _ (fair-guard _ _ (fair-guard _ _ (fair-same (pick-both (SameList x) _ (record { count = refl; list = refl }) same-refl))))
+fair-multicast P x j =
+    simp under-or (fair-guard _ _ (fair-guard _ _ (fair-guard _ _ (fair-same (pick-both (SameList x) _ (record { count = refl; list = refl }) same-refl)))))
 
 -- 2 ACCEPT
 fair-accept : (P : Plan) (x : BoxState) (from : BoxNo) (j : ℕ) (y : Proposal) → Fair x (onAccept P x from j y)
 unfolding onAccept whenKept accepted kept
 fair-accept P x from j y =
-    fair-guard _ _ (fair-guard _ _ (fair-guard _ _ (fair-pick _ (fair-same (record { count = refl; list = refl })) (fair-same (record { count = refl; list = refl })))))
+    simp under-or
+    (fair-guard _ _ (fair-guard _ _ (fair-guard _ _
+    (fair-pick _ (fair-same (record { count = refl; list = refl })) (fair-same (record { count = refl; list = refl }))))))
 
 -- 3 ACCEPT_ACK
 fair-ack : (P : Plan) (x : BoxState) (from : BoxNo) (j : ℕ) (bs : List Ballot) → Fair x (onAcceptAck P x from j bs)
 unfolding onAcceptAck whenMarked committed
 fair-ack P x from j bs =
-    fair-guard _ _ (fair-guard _ _ (fair-guard _ _ (fair-guard _ _
-    (fair-pick _ (fair-hand P x _ (record { count = refl; list = refl })) (fair-same (record { count = refl; list = refl }))))))
+    simp under-or
+    (fair-guard _ _ (fair-guard _ _ (fair-guard _ _ (fair-guard _ _
+    (fair-pick _ (fair-hand P x _ (record { count = refl; list = refl })) (fair-same (record { count = refl; list = refl })))))))
 
 -- 4 DELIVER: the job stands behind the list
 fair-deliver : (P : Plan) (x : BoxState) (j : ℕ) (y : Handout) → Fair x (onDeliver P x j y)
 unfolding onDeliver delivered
-fair-deliver P x j y = fair-guard _ _ (fair-guard _ _ (fair-guard _ _ (fair-guard _ _ (fair-does (one j (y .global) refl refl refl)))))
+fair-deliver P x j y = simp under-or (fair-guard _ _ (fair-guard _ _ (fair-guard _ _ (fair-guard _ _ (fair-does (one j (y .global) refl refl refl))))))
 
 -- 5 NEWLEADER
 fair-newleader : (P : Plan) (x : BoxState) (from : BoxNo) (b : Ballot) → Fair x (onNewleader P x from b)
 unfolding onNewleader joined
-fair-newleader P x from b = fair-guard _ _ (fair-same (record { count = refl; list = refl }))
+fair-newleader P x from b = simp under-or (fair-guard _ _ (fair-same (record { count = refl; list = refl })))
 
 -- 6 NEWLEADER_ACK
 fair-vote : (P : Plan) (x : BoxState) (from : BoxNo) (y : Ballotpaper) → Fair x (onNewleaderAck P x from y)
 unfolding onNewleaderAck whenVoted merged
 fair-vote P x from y =
-    fair-guard _ _ (fair-guard _ _ (fair-guard _ _ (fair-pick _ (fair-same (record { count = refl; list = refl })) (fair-same (record { count = refl; list = refl })))))
+    simp under-or
+    (fair-guard _ _ (fair-guard _ _ (fair-guard _ _
+    (fair-pick _ (fair-same (record { count = refl; list = refl })) (fair-same (record { count = refl; list = refl }))))))
 
 -- 7 NEW_STATE
 fair-state : (x : BoxState) (from : BoxNo) (y : NewState) → Fair x (onNewState x from y)
 unfolding onNewState followed
-fair-state x from y = fair-guard _ _ (fair-guard _ _ (fair-same (record { count = refl; list = refl })))
+fair-state x from y = simp under-or (fair-guard _ _ (fair-guard _ _ (fair-same (record { count = refl; list = refl }))))
 
 -- 8 NEWSTATE_ACK
 fair-lead : (P : Plan) (x : BoxState) (b : Ballot) → Fair x (onNewstateAck P x b)
 unfolding onNewstateAck leading
-fair-lead P x b = fair-guard _ _ (fair-guard _ _ (fair-hand P x _ (record { count = refl; list = refl })))
+fair-lead P x b = simp under-or (fair-guard _ _ (fair-guard _ _ (fair-hand P x _ (record { count = refl; list = refl }))))
 
 -- every record
 fair-react : (P : Plan) (x : BoxState) (r : Rec) → Fair x (react P x r)
@@ -152,8 +159,8 @@ fair-react P x unknown = fair-refused
 fair-acts : (P : Plan) (w : World) (o : Order) → Fair (boxAt w (whose w o)) (acts P w o)
 unfolding acts whose takes retried stood cutOff retry stand cut
 fair-acts P w (post j) = fair-same same-refl
-fair-acts P w (standing p) = fair-guard _ _ (fair-guard _ _ (fair-guard _ _ (fair-same same-refl)))
-fair-acts P w (retrying p j) = fair-guard _ _ (fair-guard _ _ (fair-guard _ _ (fair-guard _ _ (fair-same same-refl))))
+fair-acts P w (standing p) = simp under-or (fair-guard _ _ (fair-guard _ _ (fair-guard _ _ (fair-same same-refl))))
+fair-acts P w (retrying p j) = simp under-or (fair-guard _ _ (fair-guard _ _ (fair-guard _ _ (fair-guard _ _ (fair-same same-refl)))))
 fair-acts P w (cutting p) = fair-guard _ _ (fair-same (record { count = refl; list = refl }))
 fair-acts P w (carry k) = fair-guard _ _ (fair-guard _ _ (fair-guard _ _ (fair-guard _ _ (fair-react P _ (meaning (carried (recordAt w k)))))))
 

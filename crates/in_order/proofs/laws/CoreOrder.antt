@@ -6,6 +6,7 @@ use mathlib.Core.List.{List}
 use mathlib.Core.Logic.{_≢_}
 use mathlib.Core.Path.{_≡_, refl, sym, ap, subst, _∙_}
 use native.Mathlib.Omega.{arith}
+use Rattle.laws.specs.Place.{In}
 use Rattle.house.specs.Pairs.{ballotLt}
 use Rattle.house.proofs.laws.Orders.{ballotOrder, stampOrder}
 use Rattle.house.specs.declared.Stamp.{Stamp}
@@ -16,14 +17,14 @@ use Rattle.house.specs.Plan.{boxesOf, homeOf, names}
 use Rattle.house.specs.declared.Plan.{Plan}
 use Rattle.records.specs.Rec.{Rec, NewState, new-state, carried}
 use Rattle.records.specs.Rules.{valid}
+use Rattle.records.proofs.laws.Obeys.{valid-rules}
 use Rattle.boxes.specs.Box.{isRecovering, listedAt}
 use Rattle.world.specs.World.{World}
-use Rattle.laws.specs.Place.{In}
 use Rattle.in_order.proofs.laws.Compare.{Lower, Upto, Sooner, Within, strict, equal, within, Compared, under, level, over, compare, eq-le, lt-lt, lt-to-le, lt-self, le-le, le-ne, le-then-lt}
 use Rattle.in_order.proofs.laws.Quorate.{Quorate, meets}
 use Rattle.in_order.proofs.laws.Notions.{the, rowIn, Del, DelAt, News, NewsOf, Joined, Lam, asked, Part, Cert, Final, Merge}
 use Rattle.in_order.proofs.laws.Inv.{Inv, State, Handed, later, earlier, Before, Listing}
-use Rattle.in_order.proofs.laws.Sound.{valid-rules, state-says}
+use Rattle.in_order.proofs.laws.Facts.{state-says}
 use Rattle.in_order.proofs.laws.Laws.{sooner-time}
 use Rattle.in_order.proofs.laws.CoreBase.{Known, old, recent, acc-news, del-news, known, by-ballot, top-lower, top-home, top-news}
 use Rattle.in_order.proofs.laws.CoreTables.{Parent, i2n, i2b, par}

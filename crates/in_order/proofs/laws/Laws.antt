@@ -1,5 +1,5 @@
 -- General laws that the proof misses below: stamps' times, the largest kept stamp, raised clocks, pairs of numbers of the kept places.
--- They speak of definitions of lower crates, and of no world.
+-- They speak of definitions of lower rooms, and of no world.
 use Prim.Native.Nat.{ℕ, zero, suc, _*_, _≤_, _<_}
 use mathlib.Core.Bool.{Bool, true, false}
 use mathlib.Core.Logic.{_⊎_, inl, inr, _≢_, ⊎-elim}

@@ -32,10 +32,11 @@ use Rattle.boxes.specs.Post.{posts}
 use Rattle.boxes.specs.Retry.{retries}
 use Rattle.boxes.specs.Stand.{nextBallot}
 use Rattle.boxes.specs.declared.BoxState.{BoxState}
+use Rattle.boxes.proofs.laws.Sound.{SoundBox}
 use Rattle.world.specs.World.{World, post, cut}
 use Rattle.in_order.proofs.laws.Compare.{Lower, Sooner}
 use Rattle.in_order.proofs.laws.Notions.{the, ballotAt}
-use Rattle.in_order.proofs.laws.Sound.{SoundBox, AcceptFacts, AckFacts, DeliverFacts, LeaderFacts, VoteFacts, StateFacts, NsaFacts}
+use Rattle.in_order.proofs.laws.Facts.{AcceptFacts, AckFacts, DeliverFacts, LeaderFacts, VoteFacts, StateFacts, NsaFacts}
 
 -- ---- facts per kind, of box p
 

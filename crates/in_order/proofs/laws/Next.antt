@@ -19,6 +19,7 @@ use Rattle.in_order.proofs.laws.Inv.{Forms}
 use Rattle.in_order.proofs.laws.Laws.{same-box, box-ne}
 use Rattle.in_order.proofs.laws.Moves.{Move, box, sent, next}
 use Rattle.in_order.proofs.laws.Steps.{ModeStep, mode-same, mode-join, mode-merge, mode-state, mode-lead, mode}
+use Rattle.in_order.proofs.laws.Facts.{cballot-upto}
 
 module _ (P : Plan) (w : World) (p : BoxNo) (known : p .0 < boxesOf P) (F : Forms P w) (m : Move P w p) where
   -- the post grows
@@ -75,8 +76,8 @@ module _ (P : Plan) (w : World) (p : BoxNo) (known : p .0 < boxesOf P) (F : Form
       go : ModeStep P w p (box P w p m) → Upto (the w p .core .cballot) (box P w p m .core .cballot)
       go (mode-same b c s) = eq-le ballotOrder (sym c)
       go (mode-join a b c s t) = eq-le ballotOrder (sym c)
-      go (mode-merge a b c s) = rw c (a .sound .order)
-      go (mode-state a b c s t) = rw (c, a .same) (a .sound .order)
+      go (mode-merge a b c s) = rw c (cballot-upto (a .sound))
+      go (mode-state a b c s t) = rw (c, a .same) (cballot-upto (a .sound))
       go (mode-lead a b c s) = eq-le ballotOrder (sym c)
 
   pub ballot-up : (q : BoxNo) → Upto (the w q .core .ballot) (the (next P w p m) q .core .ballot)

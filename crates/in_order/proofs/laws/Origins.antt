@@ -32,10 +32,10 @@ use Rattle.boxes.specs.NewstateAck.{leading}
 use Rattle.boxes.specs.Post.{posts}
 use Rattle.boxes.specs.Retry.{retries}
 use Rattle.boxes.specs.declared.BoxState.{BoxState}
+use Rattle.boxes.proofs.laws.Sound.{SoundBox}
 use Rattle.world.specs.World.{World}
 use Rattle.in_order.proofs.laws.Notions.{the, rowIn, ballotAt, Acc, Ack, DelAt, Voted, News, Nsa}
 use Rattle.in_order.proofs.laws.Inv.{Forms}
-use Rattle.in_order.proofs.laws.Sound.{SoundBox}
 use Rattle.in_order.proofs.laws.Sends.{clash, in-each}
 use Rattle.in_order.proofs.laws.HandOut.{Gone, handout}
 use Rattle.in_order.proofs.laws.Moves.{Multicasting, Accepting, Acking, Joining, Voting, Stating, Leading, Move, m-post, m-retry, m-stand, m-cut, m-propose, m-again, m-keep, m-accept, m-mark, m-commit, m-deliver, m-join, m-hold, m-merge, m-state, m-lead, keeps, marks, commits, merges, box, sent}

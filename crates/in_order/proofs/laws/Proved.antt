@@ -1,5 +1,5 @@
 -- DEMAND 3 is proved: each of its statements is read off the invariants of a run's last world.
--- What is proved stands in the crate demand3.
+-- What is proved stands in specs/Demand3.antt.
 use mathlib.Core.Bool.{true}
 use mathlib.Core.List.{List, _++_}
 use mathlib.Core.Path.{_≡_, refl, sym, subst}

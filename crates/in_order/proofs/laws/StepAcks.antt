@@ -42,6 +42,7 @@ use Rattle.in_order.proofs.laws.Next.{grows, mover, any-next, own-is}
 use Rattle.in_order.proofs.laws.StepHolds.{at-row, accept-own, accept-acc, accept-time, row-lam, row-j3, held-mid, home-is, old-news}
 use Rattle.in_order.proofs.laws.StepLocals.{l0′, hand-ballot, hand-head, at-place}
 use Rattle.in_order.proofs.laws.CoreBase.{lam-one}
+use Rattle.in_order.proofs.laws.Facts.{cballot-upto}
 
 -- a later clock
 stay-clock : {P : Plan} {l : List Rec} {j : ℕ} {f : District → Ballot} {g : District} {k k′ : ℕ} {t : List Row} → k ≤ k′ → Stay P l j f g k t → Stay P l j f g k′ t
@@ -145,7 +146,7 @@ module _ (P : Plan) (w : World) (p : BoxNo) (known : p .0 < boxesOf P) (m : Move
   -- a box that takes a new state had a lower cballot
   pub took-up : (a : Stating P w p) → Lower (the w p .core .cballot) (a .y .ballot)
   took-up a =
-      rw (a .same) (le-ne ballotOrder (a .sound .order)
+      rw (a .same) (le-ne ballotOrder (cballot-upto (a .sound))
       (λ e. a .facts .apart .other (sym (a .facts .mine) ∙ ap (λ (b : Ballot). b .owner) (a .same) ∙ sym (I .ballots .b7 p known (a .waits) e))))
 
   own-acked : {j : ℕ} {f : District → Ballot} → Ack P (w .post) p j f → TableStep P w p (box P w p m) (next P w p m .post)
@@ -194,7 +195,7 @@ module _ (P : Plan) (w : World) (p : BoxNo) (known : p .0 < boxesOf P) (m : Move
   own-acked {j} {f} h (merged-it a q e N) =
       let A = I .acks .a1b h in
       let c : box P w p m .core .cballot ≡ the w p .core .ballot = ap (λ (x : BoxState). x .core .cballot) e in
-      let up : Lower (f (homeOf P p)) (box P w p m .core .cballot) = rw c (le-then-lt ballotOrder (A .below) (le-ne ballotOrder (a .sound .order) (a .pending))) in
+      let up : Lower (f (homeOf P p)) (box P w p m .core .cballot) = rw c (le-then-lt ballotOrder (A .below) (le-ne ballotOrder (cballot-upto (a .sound)) (a .pending))) in
       record { below = lt-to-le ballotOrder up; stay = λ e. lt-self ballotOrder up e }
 
   a1b′ : {q : BoxNo} {j : ℕ} {f : District → Ballot} → Ack P (next P w p m .post) q j f
@@ -223,7 +224,7 @@ module _ (P : Plan) (w : World) (p : BoxNo) (known : p .0 < boxesOf P) (m : Move
           let N = ack-new P w p known F m i in
           let e = new-by N in
           let u : Upto (z .ballot) (the w p .core .ballot) = subst (λ (r : BoxNo). Upto (z .ballot) (the w r .core .ballot)) e (I .ballots .b1 o) in
-          let b : f (homeOf P q) ≡ the w p .core .ballot = ap (λ (r : BoxNo). f (homeOf P r)) e ∙ new-ballot N ∙ N .a .sound .settled (N .a .active) in
+          let b : f (homeOf P q) ≡ the w p .core .ballot = ap (λ (r : BoxNo). f (homeOf P r)) e ∙ new-ballot N ∙ N .a .sound .ballots .equal (N .a .active) in
           lt-not ballotOrder lo (rw b u)
       go (inr n) _ =
           let N = vote-new P w p known F m n in

@@ -30,6 +30,7 @@ use Rattle.in_order.proofs.laws.Moves.{Voting, Leading, Move, box, sent
 use Rattle.in_order.proofs.laws.Steps.{ModeStep, mode-same, mode-join, mode-merge, mode-state, mode-lead, mode}
 use Rattle.in_order.proofs.laws.Origins.{HandFrom, by-commit, by-lead, acc-new, del-new, vote-new, news-new, nsa-new}
 use Rattle.in_order.proofs.laws.Next.{grows, mover, boxes-next, own-is, ballot-up, cballot-up}
+use Rattle.in_order.proofs.laws.Facts.{cballot-upto}
 
 module _ (P : Plan) (w : World) (p : BoxNo) (known : p .0 < boxesOf P) (m : Move P w p) (I : Inv P w) where
   F : Forms P w
@@ -85,7 +86,7 @@ module _ (P : Plan) (w : World) (p : BoxNo) (known : p .0 < boxesOf P) (m : Move
   merger a = sym (ap (λ (b : Ballot). b .owner) (a .same)) ∙ a .facts .theirs
 
   merger-low : (a : Voting P w p) → Lower (the w p .core .cballot) (the w p .core .ballot)
-  merger-low a = le-ne ballotOrder (a .sound .order) (a .pending)
+  merger-low a = le-ne ballotOrder (cballot-upto (a .sound)) (a .pending)
 
   b2′ : {y : NewState} → News (next P w p m .post) y → Upto (y .ballot) (the (next P w p m) (y .ballot .owner) .core .cballot)
   unfolding merged
@@ -259,7 +260,7 @@ module _ (P : Plan) (w : World) (p : BoxNo) (known : p .0 < boxesOf P) (m : Move
       go : ModeStep P w p (box P w p m) → isRecovering (box P w p m .core .status) ≡ true → box P w p m .core .cballot ≡ box P w p m .core .ballot → p ≡ box P w p m .core .ballot .owner
       go (mode-same b c s) t e = I .ballots .b7 p known (rw s at t) (sym c ∙ e ∙ b) ∙ sym (ap (λ (d : Ballot). d .owner) b)
       go (mode-join a b c s n) t e =
-          lt-not ballotOrder (a .above) (subst (λ (d : Ballot). Upto d (the w p .core .ballot)) (sym c ∙ e ∙ b) (a .sound .order))
+          lt-not ballotOrder (a .above) (subst (λ (d : Ballot). Upto d (the w p .core .ballot)) (sym c ∙ e ∙ b) (cballot-upto (a .sound)))
       go (mode-merge a b c n) t e = sym (ap (λ (d : Ballot). d .owner) b ∙ merger a)
       go (mode-state a b c s n) t e = never t s
       go (mode-lead a b c s) t e = never t s

@@ -50,6 +50,7 @@ use Rattle.in_order.proofs.laws.StepLocals.{hand-head}
 use Rattle.in_order.proofs.laws.StepHands.{hand-real, del-ballot}
 use Rattle.in_order.proofs.laws.StepAcks.{new-entry, new-acc}
 use Rattle.in_order.proofs.laws.StepLists.{room}
+use Rattle.in_order.proofs.laws.Facts.{leads-own, leads-real, own-low, local-home, owner-home, cballot-upto}
 
 -- the own number and the lengths of a box, over the fields that they speak of
 record Sizes (p own : BoxNo) (table : List Row) (sent : List Bool) (list : List Listed) (count : ℕ) (kept-ballots : List Ballot) (kept-stamps : List Stamp) (marks : List ℕ) : Type 0 where
@@ -194,18 +195,18 @@ module _ (P : Plan) (w : World) (p : BoxNo) (known : p .0 < boxesOf P) (m : Move
   acc-form : {j : ℕ} {b : Ballot} {s : Stamp} → AccNew P w p m j b s → AccForm P j b s
   acc-form {j} {b} {s} N =
       let A = N .asks in
-      let o : b .owner ≡ ownOf (the w p) = ap (λ (c : Ballot). c .owner) (N .ballot) ∙ A .sound .leads-own (A .lead) in
+      let o : b .owner ≡ ownOf (the w p) = ap (λ (c : Ballot). c .owner) (N .ballot) ∙ leads-own (A .sound) (A .lead) in
       let h : homeOf P (b .owner) ≡ homeIn P (the w p) = ap (homeOf P) o in
       record {
-        real = rw (N .ballot) (A .sound .leads-real (A .lead));
-        box = rw o (A .sound .box);
+        real = rw (N .ballot) (leads-real (A .sound) (A .lead));
+        box = rw o (own-low (A .sound));
         district = stamped (A .stamped) ∙ sym h;
         named = rw h (A .named);
       }
     where
       stamped : Stamped P (the w p) j s → s .district ≡ homeIn P (the w p)
       stamped (new-stamp z e) = ap (λ (t : Stamp). t .district) e
-      stamped (old-stamp n e) = ap (λ (t : Stamp). t .district) e ∙ N .asks .sound .rows j (names-job P j (homeIn P (the w p)) (N .asks .named)) .local n
+      stamped (old-stamp n e) = ap (λ (t : Stamp). t .district) e ∙ local-home (N .asks .sound) j (names-job P j (homeIn P (the w p)) (N .asks .named)) n
 
   -- a kept ballot is of a box of its district
   kept-home : (a : Accepting P w p) (d : District) → names P (a .j) d ≡ true → 1 ≤ keptBallot (keeps P w p a) (a .j) d .number → homeOf P (keptBallot (keeps P w p a) (a .j) d .owner) ≡ d
@@ -226,12 +227,12 @@ module _ (P : Plan) (w : World) (p : BoxNo) (known : p .0 < boxesOf P) (m : Move
           let q = kept-there P w p known m I a (a .j) d e in
           let r′ = rw q at r in
           ap (λ (b : Ballot). homeOf P (b .owner)) q
-          ∙ a .sound .kept (a .j) d (omega (arith, names-job P (a .j) (homeIn P (the w p)) (a .named), plan-says P (G .plan) .jobs-most)) ld (real-some (keptBallot (the w p) (a .j) d) r′) .home
+          ∙ owner-home (a .sound) (a .j) d (omega (arith, names-job P (a .j) (homeIn P (the w p)) (a .named), plan-says P (G .plan) .jobs-most)) ld (real-some (keptBallot (the w p) (a .j) d) r′)
 
   ack-form : {q : BoxNo} {j : ℕ} {f : District → Ballot} → AckNew P w p m q j f → AckForm P q j f
   ack-form {q} {j} {f} N =
       record {
-        box = rw (N .by) (N .a .sound .box);
+        box = rw (N .by) (own-low (N .a .sound));
         named = rw (N .by, ← N .job) (N .a .named);
         real = real;
         homes = λ d n. let e = new-entry P w p known m I S N d n in
@@ -259,7 +260,7 @@ module _ (P : Plan) (w : World) (p : BoxNo) (known : p .0 < boxesOf P) (m : Move
         box = known;
         owner = rw (a .facts .mine) (a .facts .near .from-box);
         home = ap (homeOf P) (a .facts .mine) ∙ a .facts .near .home;
-        lower = le-then-lt ballotOrder (a .sound .order) (a .above);
+        lower = le-then-lt ballotOrder (cballot-upto (a .sound)) (a .above);
         chome = B .chome;
         table = B .table;
       })

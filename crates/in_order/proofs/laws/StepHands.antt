@@ -50,6 +50,7 @@ use Rattle.in_order.proofs.laws.StepLocals.{LamStep, lam-old, lam-state
 use Rattle.in_order.proofs.laws.StepAcks.{final-new}
 use Rattle.in_order.proofs.laws.CoreBase.{lam-one, del-news, lam-job}
 use Rattle.in_order.proofs.laws.Commit.{own-mark, kept-own}
+use Rattle.in_order.proofs.laws.Facts.{leads-real, phase-most}
 
 -- how the flags change
 data FlagStep (P : Plan) (w : World) (p : BoxNo) (m : Move P w p) : Type 0 where
@@ -215,15 +216,15 @@ module _ (P : Plan) (w : World) (p : BoxNo) (known : p .0 < boxesOf P) (m : Move
 
   pub hand-real : (y : BoxState) → HandFrom P w p y → 1 ≤ the w p .core .cballot .number
   hand-real y (by-lead a e) = rw (a .current) at (a .facts .real)
-  hand-real y (by-commit a t e) = a .sound .leads-real (a .lead)
+  hand-real y (by-commit a t e) = leads-real (a .sound) (a .lead)
 
   -- phases of the box that hands out
   hand-most : (y : BoxState) → HandFrom P w p y → (k : ℕ) → k < P .jobs → rowIn (y .core .table) k .phase ≤ 3
   unfolding committed leading
-  hand-most y (by-lead a e) k l = rw e (a .sound .rows k l .most)
+  hand-most y (by-lead a e) k l = rw e (phase-most (a .sound) k l)
   hand-most y (by-commit a t e) k l =
       rw e (at-row (the w p .core .table) (a .j) _ k (λ r. r .phase ≤ 3)
-      (omega (arith, names-job P (a .j) (homeIn P (the w p)) (a .named), plan-says P (F .plan) .jobs-most, F .box p known .table)) (λ _. omega arith) (λ _. a .sound .rows k l .most))
+      (omega (arith, names-job P (a .j) (homeIn P (the w p)) (a .named), plan-says P (F .plan) .jobs-most, F .box p known .table)) (λ _. omega arith) (λ _. phase-most (a .sound) k l))
 
   module _ {n j : ℕ} {from : BoxNo} {b : Ballot} {s t : Stamp} (N : DelNew P w p m n j from b s t) {k : ℕ} (apart : k ≢ j) {u : Stamp} (L : Lam P (w .post) b k u) (below : Sooner u t) where
     y : BoxState

@@ -46,6 +46,7 @@ use Rattle.in_order.proofs.laws.CoreTables.{merge-c1, merge-i3}
 use Rattle.in_order.proofs.laws.StepVolatile.{keep-v1, merge-new}
 use Rattle.in_order.proofs.laws.StepBallots.{fresh-news, i1b′}
 use Rattle.in_order.proofs.laws.Commit.{commit-final, commit-clock, kept-own, kept-acc}
+use Rattle.in_order.proofs.laws.Facts.{leads-real}
 
 -- a row that is written, and the others
 pub at-row : (t : List Row) (j : ℕ) (r : Row) (k : ℕ) (Q : Row → Type 0) → j < length t → (k ≡ j → Q r) → (k ≢ j → Q (rowIn t k)) → Q (rowIn (set t j r) k)
@@ -124,12 +125,12 @@ module _ (P : Plan) (w : World) (p : BoxNo) (known : p .0 < boxesOf P) (m : Move
     inside = omega (arith, names-job P j (homeIn P (the w p)) named, few, F .box p known .table)
 
     real : Why P w p y l j r → 1 ≤ the w p .core .cballot .number
-    real (proposes a ej n c k e) = a .sound .leads-real (a .lead)
+    real (proposes a ej n c k e) = leads-real (a .sound) (a .lead)
     real (accepts a ej t n c e) =
         let A = accept-acc a (rw (← ej) at t) (homeIn P (the w p)) (a .named) in
         let f = F .acc A .real in
         rw (accept-own a (rw (← ej) at t)) at f
-    real (commits-it a ej t c e) = a .sound .leads-real (a .lead)
+    real (commits-it a ej t c e) = leads-real (a .sound) (a .lead)
     real (delivers-it a ej c e) = rw (a .same) at (a .facts .real)
 
     pub row-lam : Why P w p y l j r → Lam P l (the w p .core .cballot) j (r .local)

@@ -44,6 +44,7 @@ use Rattle.in_order.proofs.laws.Steps.{commit-hands, lead-hands, propos
 use Rattle.in_order.proofs.laws.Next.{grows, boxes-next}
 use Rattle.in_order.proofs.laws.StepHolds.{at-row}
 use Rattle.in_order.proofs.laws.StepAcks.{took-up}
+use Rattle.in_order.proofs.laws.Facts.{cballot-upto}
 
 -- how the list changes
 pub data ListStep (P : Plan) (w : World) (p : BoxNo) (x : BoxState) : Type 0 where
@@ -163,7 +164,7 @@ module _ (P : Plan) (w : World) (p : BoxNo) (known : p .0 < boxesOf P) (m : Move
       record { ballot = L .ballot; local = L .local; del = L .del; home = L .home; upto = lt-to-le ballotOrder up; now = λ e. lt-self ballotOrder up e }
   listing (merged-it a q e N) L =
       let c : box P w p m .core .cballot ≡ the w p .core .ballot = ap (λ (x : BoxState). x .core .cballot) e in
-      let up : Lower (L .ballot) (box P w p m .core .cballot) = rw c (le-then-lt ballotOrder (L .upto) (le-ne ballotOrder (a .sound .order) (a .pending))) in
+      let up : Lower (L .ballot) (box P w p m .core .cballot) = rw c (le-then-lt ballotOrder (L .upto) (le-ne ballotOrder (cballot-upto (a .sound)) (a .pending))) in
       record { ballot = L .ballot; local = L .local; del = L .del; home = L .home; upto = lt-to-le ballotOrder up; now = λ e. lt-self ballotOrder up e }
 
   abbrev OnList : BoxNo → BoxState → Type 0

@@ -37,6 +37,7 @@ use Rattle.in_order.proofs.laws.Next.{others-next, own-is}
 use Rattle.in_order.proofs.laws.StepBallots.{fresh-news, merger, no-news-yet}
 use Rattle.in_order.proofs.laws.StepHolds.{at-row}
 use Rattle.in_order.proofs.laws.CoreBase.{lam-one, lam-news}
+use Rattle.in_order.proofs.laws.Facts.{leads-own}
 
 -- a local stamp of a ballot in the next world: old, of a new NEW_STATE, or of a new ACCEPT
 pub data LamStep (P : Plan) (l k : List Rec) (b : Ballot) (m : ℕ) (s : Stamp) : Type 0 where
@@ -71,7 +72,7 @@ module _ (P : Plan) (w : World) (p : BoxNo) (known : p .0 < boxesOf P) (m : Move
 
   -- a leader heads its ballot
   pub head : {j : ℕ} {s : Stamp} → Asks P w p m j s → p ≡ the w p .core .cballot .owner
-  head A = sym (A .sound .leads-own (A .lead) ∙ own-is P w p known F m)
+  head A = sym (leads-own (A .sound) (A .lead) ∙ own-is P w p known F m)
 
   pub low : {j : ℕ} {s : Stamp} → Asks P w p m j s → j < P .jobs
   low {j} A = names-job P j (homeIn P (the w p)) (A .named)
@@ -262,7 +263,7 @@ module _ (P : Plan) (w : World) (p : BoxNo) (known : p .0 < boxesOf P) (m : Move
   hand-sent y (by-lead a e) j = ap (λ (x : BoxState). sentAt x j) e
 
   pub hand-head : (y : BoxState) → HandFrom P w p y → p ≡ the w p .core .cballot .owner
-  hand-head y (by-commit a t e) = sym (a .sound .leads-own (a .lead) ∙ own-is P w p known F m)
+  hand-head y (by-commit a t e) = sym (leads-own (a .sound) (a .lead) ∙ own-is P w p known F m)
   hand-head y (by-lead a e) = sym (a .facts .theirs) ∙ ap (λ (b : Ballot). b .owner) (a .current)
 
   pub at-place : {l : List Rec} {j : ℕ} {b : Ballot} {s t : Stamp} (h : Del l j b s t) → DelAt l (h .there .place) j b s t

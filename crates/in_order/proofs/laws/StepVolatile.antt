@@ -47,6 +47,7 @@ use Rattle.in_order.proofs.laws.Moves.{Accepting, Acking, Voting, Move,
 use Rattle.in_order.proofs.laws.Steps.{commit-hands, lead-hands, proposed-is}
 use Rattle.in_order.proofs.laws.Origins.{news-new}
 use Rattle.in_order.proofs.laws.Next.{grows, boxes-next, own-is}
+use Rattle.in_order.proofs.laws.Facts.{voter-near, vote-most}
 
 -- how the volatile part changes
 data VolStep (P : Plan) (w : World) (p : BoxNo) (y : BoxState) : Type 0 where
@@ -257,13 +258,12 @@ module _ (P : Plan) (w : World) (p : BoxNo) (known : p .0 < boxesOf P) (m : Move
   merge-new a t =
       let o : the w p .core .ballot .owner ≡ p = ap (λ (c : Ballot). c .owner) (sym (a .same)) ∙ a .facts .theirs in
       let h : homeOf P p ≡ homeOf P (the w p .core .ballot .owner) = sym (ap (λ (q : BoxNo). homeOf P q) o) in
-      let held = a .sound .vote in
       merge-of P (w .post) (record { ballot = the w p .core .ballot; clock = clockStamp P (merges P w p a); table = merges P w p a .core .table })
       (the w p .volatile .vote) (voteOf (a .from) (a .y)) (F .plan) (leb-true _ _ t)
-      (record { kept = record { paper = a .y; voted = record { to = p; there = a .there }; ballot = a .same; cballot = refl; clock = refl; table = refl }; most = λ k low. a .facts .rows k low .most })
-      (λ e. record { kept = I .volatiles .v3 p known e; most = λ k low. held e .rows k low .most })
+      (record { kept = record { paper = a .y; voted = record { to = p; there = a .there }; ballot = a .same; cballot = refl; clock = refl; table = refl }; most = λ k low. a .facts .most k low })
+      (λ e. record { kept = I .volatiles .v3 p known e; most = λ k low. vote-most (a .sound) e k low })
       (a .facts .near .from-box) (a .facts .near .home ∙ h)
-      (λ e. held e .near .from-box) (λ e. held e .near .home ∙ ap (λ (q : BoxNo). homeOf P q) (own-is P w p known F m) ∙ h)
+      (λ e. voter-near (a .sound) e .from-box) (λ e. voter-near (a .sound) e .home ∙ ap (λ (q : BoxNo). homeOf P q) (own-is P w p known F m) ∙ h)
       (a .another) refl
       (λ k low. merged-row (votesWith (the w p .volatile .vote) (voteOf (a .from) (a .y))) (P .jobs) k few low)
 

@@ -42,6 +42,7 @@ use Rattle.in_order.proofs.laws.Sends.{each-in}
 use Rattle.in_order.proofs.laws.Counting.{another}
 use Rattle.in_order.proofs.laws.HandOut.{Turned, hand-out}
 use Rattle.in_order.proofs.laws.Moves.{Multicasting, Accepting, Acking, Delivering, Joining, Voting, Stating, Leading, Move, m-post, m-retry, m-stand, m-cut, m-propose, m-again, m-keep, m-accept, m-mark, m-commit, m-deliver, m-join, m-hold, m-merge, m-state, m-lead, keeps, marks, commits, merges, box, sent}
+use Rattle.in_order.proofs.laws.Facts.{own-low}
 
 -- a move that hands out, from box y
 pub record Hand (P : Plan) (w : World) (p : BoxNo) (m : Move P w p) (y : BoxState) : Type 0 where
@@ -88,13 +89,13 @@ module _ (P : Plan) (w : World) (p : BoxNo) (known : p .0 < boxesOf P) (F : Form
   pub commit-hands : (a : Acking P w p) (e : Rattle.boxes.specs.AcceptAck.enough P (marks P w p a) (a .j) ≡ true) → Hand P w p (m-commit a e) (commits P w p a)
   unfolding committed
   commit-hands a e =
-      let H = hand-out P (commits P w p a) (a .sound .box) (F .box p known .sent) few in
+      let H = hand-out P (commits P w p a) (own-low (a .sound)) (F .box p known .sent) few in
       record { flags = H .flags; box-is = H .box-is; turned = H .turned }
 
   pub lead-hands : (a : Leading P w p) → Hand P w p (m-lead a) (leading (the w p))
   unfolding leading
   lead-hands a =
-      let H = hand-out P (leading (the w p)) (a .sound .box) (F .box p known .sent) few in
+      let H = hand-out P (leading (the w p)) (own-low (a .sound)) (F .box p known .sent) few in
       record { flags = H .flags; box-is = H .box-is; turned = H .turned }
 
   pub proposed-is : (a : Multicasting P w p) → rowAt (the w p) (a .j) .phase ≡ 0
@@ -113,7 +114,7 @@ module _ (P : Plan) (w : World) (p : BoxNo) (known : p .0 < boxesOf P) (F : Form
       let x = putRow (the w p) (the w p .core .clock + 1) (a .j) (record { phase = 1; local = stamp (the w p .core .clock + 1) (homeIn P (the w p) .0); global = noStamp }) in
       let q : rowIn (x .core .table) (a .j) .local ≡ stamp (the w p .core .clock + 1) (homeIn P (the w p) .0)
       = ap (λ (r : Row). r .local) (getD-set-same (the w p .core .table) (a .j) _ noRow (omega (arith, F .box p known .table))) in
-      let i = each-in P (λ q. names P (a .j) (homeOf P q)) (λ to. accept (ownOf x) to (a .j) (record { ballot = x .core .cballot; stamp = rowIn (x .core .table) (a .j) .local })) (ownOf x) (a .sound .box) (a .named) in
+      let i = each-in P (λ q. names P (a .j) (homeOf P q)) (λ to. accept (ownOf x) to (a .j) (record { ballot = x .core .cballot; stamp = rowIn (x .core .table) (a .j) .local })) (ownOf x) (own-low (a .sound)) (a .named) in
       let k = subst (λ (s : Stamp). In (accept (ownOf x) (ownOf x) (a .j) (record { ballot = x .core .cballot; stamp = s })) (Rattle.boxes.specs.Multicast.accepts P x (a .j))) q i in
       record { from = ownOf x; to = ownOf x; there = in-right (w .post) _ (rw e k) }
 
@@ -122,7 +123,7 @@ module _ (P : Plan) (w : World) (p : BoxNo) (known : p .0 < boxesOf P) (F : Form
       → News (w .post ++ sent P w p (m-merge a q)) (record { ballot = the w p .core .ballot; clock = clockStamp P (merges P w p a); table = merges P w p a .core .table })
   unfolding newStates merged
   merge-sent a q =
-      let A = another P (ownOf (the w p)) (a .sound .box) in
+      let A = another P (ownOf (the w p)) (own-low (a .sound)) in
       let i = each-in P (λ r. sameHome P r (ownOf (the w p)) && not (eqb (r .0) (ownOf (the w p) .0)))
       (λ to. new-state (ownOf (the w p)) to (record { ballot = the w p .core .ballot; clock = clockStamp P (merges P w p a); table = merges P w p a .core .table })) (A .box) (A .known)
       (and-both (sameHome P (A .box) (ownOf (the w p))) _ (same-home-is P (A .box) (ownOf (the w p)) (A .home)) (not-off (ne-eqb (A .box .0) (ownOf (the w p) .0) (A .other)))) in

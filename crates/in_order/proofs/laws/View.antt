@@ -39,11 +39,14 @@ use Rattle.boxes.specs.NewleaderAck.{whenVoted, votedBy, onNewleaderAck}
 use Rattle.boxes.specs.NewState.{onNewState}
 use Rattle.boxes.specs.NewstateAck.{onNewstateAck}
 use Rattle.boxes.specs.Step.{react, takes, retried, stood, cutOff}
+use Rattle.boxes.proofs.laws.Answers.{under-or}
 use Rattle.boxes.specs.declared.BoxState.{BoxState}
 use Rattle.boxes.specs.declared.Delivery.{Delivery}
 use Rattle.world.specs.World.{World, Order, post, stand, retry, cut, carry, recordAt, whose, exists, acts, given, finish, step}
 use Rattle.in_order.proofs.laws.Notions.{the, ballotAt}
-use Rattle.in_order.proofs.laws.Sound.{SoundBox, sound-says, valid-rules, multicast-says, AcceptFacts, accept-says, AckFacts, ack-says, DeliverFacts, deliver-says, LeaderFacts, newleader-says, VoteFacts, vote-says, StateFacts, state-says, NsaFacts, nsa-says}
+use Rattle.records.proofs.laws.Obeys.{valid-rules}
+use Rattle.boxes.proofs.laws.Sound.{SoundBox, sound-says}
+use Rattle.in_order.proofs.laws.Facts.{multicast-says, AcceptFacts, accept-says, AckFacts, ack-says, DeliverFacts, deliver-says, LeaderFacts, newleader-says, VoteFacts, vote-says, StateFacts, state-says, NsaFacts, nsa-says}
 use Rattle.in_order.proofs.laws.Sends.{clash, guard-does, does-box, does-sent}
 use Rattle.in_order.proofs.laws.Moves.{Multicasting, Accepting, Acking, Delivering, Joining, Voting, Stating, Leading, Move, m-post, m-retry, m-stand, m-cut, m-propose, m-again, m-keep, m-accept, m-mark, m-commit, m-deliver, m-join, m-hold, m-merge, m-state, m-lead, Does, next}
 
@@ -56,7 +59,7 @@ module _ (P : Plan) (w : World) (from p : BoxNo) (S : SoundBox P (the w p)) {x :
   multicast-does : (j : ℕ) → p .0 < boxesOf P → onMulticast P (the w p) j ≡ does x l d → Does P w p x l
   unfolding onMulticast proposed
   multicast-does j known e =
-      let g₁ = guard-does _ _ _ e in
+      let g₁ = guard-does _ _ _ (simp under-or at e) in
       let g₂ = guard-does _ _ _ (g₁ .1) in
       let g₃ = guard-does _ _ _ (g₂ .1) in
       go (record { j = j; sound = S; named = g₁ .0; lead = g₂ .0 }) refl (look (eqb (rowAt (the w p) j .phase) 0)) (g₃ .1)
@@ -77,7 +80,7 @@ module _ (P : Plan) (w : World) (from p : BoxNo) (S : SoundBox P (the w p)) {x :
   accept-does : (j : ℕ) (y : Proposal) → In (accept from p j y) (w .post) → AcceptFacts P from p j y → onAccept P (the w p) from j y ≡ does x l d → Does P w p x l
   unfolding onAccept whenKept ballotFits
   accept-does j y i F e =
-      let g₁ = guard-does _ _ _ e in
+      let g₁ = guard-does _ _ _ (simp under-or at e) in
       let g₂ = guard-does _ _ _ (g₁ .1) in
       let g₃ = guard-does _ _ _ (g₂ .1) in
       let fits = and-left (ballotFits P (the w p) j (homeOf P from) y) _ (g₃ .0) in
@@ -100,7 +103,7 @@ module _ (P : Plan) (w : World) (from p : BoxNo) (S : SoundBox P (the w p)) {x :
   ack-does : (j : ℕ) (bs : List Ballot) → In (accept-ack from p j bs) (w .post) → AckFacts P from p j → onAcceptAck P (the w p) from j bs ≡ does x l d → Does P w p x l
   unfolding onAcceptAck whenMarked agree agreeBelow
   ack-does j bs i F e =
-      let g₁ = guard-does _ _ _ e in
+      let g₁ = guard-does _ _ _ (simp under-or at e) in
       let g₂ = guard-does _ _ _ (g₁ .1) in
       let g₃ = guard-does _ _ _ (g₂ .1) in
       let g₄ = guard-does _ _ _ (g₃ .1) in
@@ -128,7 +131,7 @@ module _ (P : Plan) (w : World) (from p : BoxNo) (S : SoundBox P (the w p)) {x :
   deliver-does : (j : ℕ) (y : Handout) → In (deliver from p j y) (w .post) → DeliverFacts P from p y → onDeliver P (the w p) j y ≡ does x l d → Does P w p x l
   unfolding onDeliver
   deliver-does j y i F e =
-      let g₁ = guard-does _ _ _ e in
+      let g₁ = guard-does _ _ _ (simp under-or at e) in
       let g₂ = guard-does _ _ _ (g₁ .1) in
       let g₃ = guard-does _ _ _ (g₂ .1) in
       let g₄ = guard-does _ _ _ (g₃ .1) in
@@ -150,14 +153,14 @@ module _ (P : Plan) (w : World) (from p : BoxNo) (S : SoundBox P (the w p)) {x :
   newleader-does : (b : Ballot) → In (newleader from p b) (w .post) → LeaderFacts P from p b → onNewleader P (the w p) from b ≡ does x l d → Does P w p x l
   unfolding onNewleader
   newleader-does b i F e =
-      let g = guard-does _ _ _ e in
+      let g = guard-does _ _ _ (simp under-or at e) in
       let a : Joining P w p = record { from = from; b = b; there = i; sound = S; facts = F; above = record { says = g .0 } } in
       record { known = F .near .to-box; move = m-join a; box-is = does-box (g .1); sent-is = does-sent (g .1) }
 
   vote-does : (y : Ballotpaper) → In (newleader-ack from p y) (w .post) → VoteFacts P from p y → onNewleaderAck P (the w p) from y ≡ does x l d → Does P w p x l
   unfolding onNewleaderAck whenVoted votedBy
   vote-does y i F e =
-      let g₁ = guard-does _ _ _ e in
+      let g₁ = guard-does _ _ _ (simp under-or at e) in
       let g₂ = guard-does _ _ _ (g₁ .1) in
       let g₃ = guard-does _ _ _ (g₂ .1) in
       let c = not (sameBallot (the w p .core .cballot) (the w p .core .ballot)) in
@@ -185,7 +188,7 @@ module _ (P : Plan) (w : World) (from p : BoxNo) (S : SoundBox P (the w p)) {x :
   state-does : (y : NewState) → In (new-state from p y) (w .post) → StateFacts P from p y → onNewState (the w p) from y ≡ does x l d → Does P w p x l
   unfolding onNewState
   state-does y i F e =
-      let g₁ = guard-does _ _ _ e in
+      let g₁ = guard-does _ _ _ (simp under-or at e) in
       let g₂ = guard-does _ _ _ (g₁ .1) in
       let a : Stating P w p = record { from = from; y = y; there = i; sound = S; facts = F; waits = g₁ .0; same = ballotOrder .eq-says _ _ (g₂ .0) } in
       record { known = F .apart .near .to-box; move = m-state a; box-is = does-box (g₂ .1); sent-is = does-sent (g₂ .1) }
@@ -193,7 +196,7 @@ module _ (P : Plan) (w : World) (from p : BoxNo) (S : SoundBox P (the w p)) {x :
   nsa-does : (b : Ballot) → In (newstate-ack from p b) (w .post) → NsaFacts P from p b → onNewstateAck P (the w p) b ≡ does x l d → Does P w p x l
   unfolding onNewstateAck
   nsa-does b i F e =
-      let g₁ = guard-does _ _ _ e in
+      let g₁ = guard-does _ _ _ (simp under-or at e) in
       let g₂ = guard-does _ _ _ (g₁ .1) in
       let s = sameBallot b (the w p .core .ballot) in
       let a : Leading P w p = record {
@@ -241,12 +244,12 @@ acts-does : (P : Plan) (w : World) (o : Order) → planSound P ≡ true → exis
 unfolding acts whose exists retried stood cutOff Rattle.boxes.specs.Retry.retry Rattle.boxes.specs.Stand.stand
 acts-does P w (post j) s v x l d e = record { known = some-box P s; move = m-post j; box-is = does-box e; sent-is = does-sent e }
 acts-does P w (stand p) s v x l d e =
-    let g₁ = guard-does _ _ _ e in
+    let g₁ = guard-does _ _ _ (simp under-or at e) in
     let g₂ = guard-does _ _ _ (g₁ .1) in
     let g₃ = guard-does _ _ _ (g₂ .1) in
     record { known = ltb-true _ _ v; move = m-stand; box-is = does-box (g₃ .1); sent-is = does-sent (g₃ .1) }
 acts-does P w (retry p j) s v x l d e =
-    let g₁ = guard-does _ _ _ e in
+    let g₁ = guard-does _ _ _ (simp under-or at e) in
     let g₂ = guard-does _ _ _ (g₁ .1) in
     let g₃ = guard-does _ _ _ (g₂ .1) in
     let g₄ = guard-does _ _ _ (g₃ .1) in

@@ -4,7 +4,7 @@ use mathlib.Core.Bool.{Bool, true, false, not, _&&_, _||_}
 use mathlib.Core.Logic.{_⊎_, inl, inr}
 use mathlib.Core.Path.{_≡_, refl}
 use native.Mathlib.Omega.{arith}
-use Rattle.laws.specs.Choice.{pick}
+use Rattle.laws.specs.Choice.{pick, and-left, and-right}
 
 -- both ways of a choice, each with what its test says
 pub pick-cases : {A C : Type 0} (t : Bool) (a b : A) {c : A} → pick t a b ≡ c → (t ≡ true → a ≡ c → C) → (t ≡ false → b ≡ c → C) → C
@@ -78,3 +78,17 @@ pub same-test : (a b : Bool) → (a ≡ true → b ≡ true) → (b ≡ true →
 same-test true b f g = let h : b ≡ true = f refl in rw h
 same-test false true f g = g refl
 same-test false false f g = refl
+
+-- both parts of a passed test
+pub both : {a b : Bool} → a && b ≡ true → (a ≡ true) × (b ≡ true)
+both {a} {b} h = (and-left a b h, and-right a b h)
+
+-- one of two tests holds where the second does whenever the first fails
+pub or-if : (a b : Bool) → (a ≡ false → b ≡ true) → a || b ≡ true
+or-if true b f = refl
+or-if false b f = f refl
+
+-- a test that cannot hold fails
+pub not-so : (a : Bool) → (a ≡ true → ⊥) → a ≡ false
+not-so true f = absurd (f refl)
+not-so false f = refl

@@ -1,5 +1,5 @@
 -- Laws of what specs/Fold.antt defines.
-use Prim.Native.Nat.{ℕ, zero, suc, _+_, _<_}
+use Prim.Native.Nat.{ℕ, zero, suc, _+_, _<_, _≤_}
 use mathlib.Core.Bool.{Bool, true, false, _&&_, _||_}
 use mathlib.Core.List.{List, foldl, foldl-append}
 use mathlib.Core.Logic.{_⊎_, inl, inr, ⊎-elim}
@@ -10,8 +10,10 @@ use native.Mathlib.Omega.{arith}
 use lib.ListN.{length, take, getD}
 use lib.Seq.{take-suc}
 use Rattle.laws.specs.Choice.{and-left, and-right, and-both}
-use Rattle.laws.proofs.laws.Choice.{or-cases, or-left, or-right}
+use Rattle.laws.proofs.laws.Choice.{or-cases, or-left, or-right, or-other, or-if, not-so}
 use Rattle.laws.specs.Fold.{upto, allBelow, someBelow}
+use lib.Dec.{ltb}
+use borrow.Author.Tests.{ltb-false, le-ltb}
 
 pub upto-step : {S : Type 0} (f : S → ℕ → S) (s : S) (n : ℕ) → f (upto f s n) n ≡ upto f s (n + 1)
 upto-step f s n = rw add-one
@@ -63,3 +65,14 @@ some-is t (suc n) i l h =
 -- one element more of a fold over a list
 pub over-step : {S : Type 0} (f : S → ℕ → S) (s : S) (l : List ℕ) (i : ℕ) → i < length l → f (foldl f s (take i l)) (getD l i 0) ≡ foldl f s (take (i + 1) l)
 over-step f s l i h = rw (add-one, take-suc l i 0 h, foldl-append)
+
+-- a test that holds of no number below n
+pub none-below : (t : ℕ → Bool) (n : ℕ) → ((i : ℕ) → i < n → t i ≡ true → ⊥) → someBelow t n ≡ false
+none-below t n f = not-so (someBelow t n) (λ h. let w = some-says t n h in f (w .0) (w .1) (w .2))
+
+-- a test that is asked from place n on
+pub from-says : (t : ℕ → Bool) (n k : ℕ) → allBelow (λ i. ltb i n || t i) k ≡ true → (i : ℕ) → n ≤ i → i < k → t i ≡ true
+from-says t n k h i m l = or-other (ltb i n) (t i) (all-says (λ q. ltb q n || t q) k h i l) (le-ltb i n m)
+
+pub from-is : (t : ℕ → Bool) (n k : ℕ) → ((i : ℕ) → n ≤ i → i < k → t i ≡ true) → allBelow (λ i. ltb i n || t i) k ≡ true
+from-is t n k f = all-is (λ i. ltb i n || t i) k (λ i l. or-if (ltb i n) (t i) (λ e. f i (ltb-false i n e) l))

@@ -2,13 +2,15 @@
 use Prim.Native.Nat.{ℕ, zero, suc, _+_, _<_}
 use mathlib.Core.Bool.{Bool, true, false}
 use mathlib.Core.List.{List, [], _∷_, _++_, map, append-assoc, append-nil}
-use mathlib.Core.Logic.{_⊎_, inl, inr}
+use mathlib.Core.Logic.{_⊎_, inl, inr, _≢_}
 use mathlib.Core.Path.{_≡_, refl, sym, ap, _∙_}
 use native.Mathlib.Nat.{zero-add, suc-add}
 use native.Mathlib.Omega.{arith}
-use lib.ListN.{length, getD}
+use lib.ListN.{length, getD, set}
 use Rattle.laws.proofs.laws.Choice.{look}
 use Rattle.laws.specs.Place.{At, In}
+use native.Mathlib.Decide.{ℕ-discrete}
+use lib.Seq.{getD-set-same, getD-set-other}
 
 -- k begins with l
 pub record Begins {A : Type 0} (l k : List A) : Type 0 where
@@ -149,3 +151,11 @@ find {A} t (x ∷ l) = go (look (t x)) (find t l)
         at : (m : A) → (m ≡ x) ⊎ In m l → t m ≡ false
         at m (inl e) = rw e h
         at m (inr k) = f m k
+
+-- what holds of the new element at its place and of the old ones elsewhere holds after a place is set
+pub at-each : {A : Type 0} (Q : A → Type 0) (l : List A) (i k : ℕ) (a d : A) → i < length l → (k ≡ i → Q a) → (k ≢ i → Q (getD l k d)) → Q (getD (set l i a) k d)
+at-each Q l i k a d h f g = go (ℕ-discrete k i)
+  where
+    go : Dec (k ≡ i) → Q (getD (set l i a) k d)
+    go (yes e) = rw (e, getD-set-same l i a d h) (f e)
+    go (no n) = rw (getD-set-other l i k a d n) (g n)

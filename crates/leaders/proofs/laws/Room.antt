@@ -6,15 +6,15 @@ use native.Mathlib.Omega.{arith}
 use lib.Dec.{ltb}
 use borrow.Author.Tests.{ltb-true}
 use Rattle.house.specs.Limits.{mostNumber}
-use Rattle.records.specs.Answers.{answerNo}
+use Rattle.records.specs.Answers.{atLimit, answerNo, orNo}
 use Rattle.records.specs.declared.Answer.the-variants.{Done}
-use Rattle.boxes.specs.Out.{inOrder}
+use Rattle.boxes.specs.Stand.{standAnswer}
 use Rattle.boxes.specs.declared.BoxState.{BoxState}
 
 -- a last test under which all is done has passed
-pub room-says : (t : Bool) → inOrder true true true true t ≡ Done → t ≡ true
+room-says : (t : Bool) → orNo t atLimit Done ≡ Done → t ≡ true
 room-says true e = refl
 room-says false e = absurd (omega (arith, ap answerNo e))
 
-pub stand-room : (x : BoxState) → inOrder true true true true (ltb (x .core .ballot .number) mostNumber) ≡ Done → x .core .ballot .number < mostNumber
+pub stand-room : (x : BoxState) → standAnswer x ≡ Done → x .core .ballot .number < mostNumber
 stand-room x e = ltb-true (x .core .ballot .number) mostNumber (room-says (ltb (x .core .ballot .number) mostNumber) e)

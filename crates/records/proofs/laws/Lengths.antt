@@ -1,16 +1,18 @@
 -- How long a record's bytes are: the length of its kind, for any struct with the arrays of the code.
-use Prim.Native.Nat.{ℕ, _+_, _*_, _≤_}
+use Prim.Native.Nat.{ℕ, _+_, _*_, _≤_, _-_}
 use mathlib.Core.Bool.{true}
 use mathlib.Core.List.{List, _++_, map}
 use mathlib.Core.Path.{_≡_, sym, ap, _∙_}
 use native.Mathlib.Omega.{arith}
-use lib.ListN.{length, length-append, length-map}
+use lib.ListN.{length, length-append, length-map, getD, drop, replicate, length-replicate}
+use Rattle.laws.specs.Codec.{decRow, row-read-length}
 use Rattle.house.specs.Limits.{mostDistricts, mostJobs, leastTray}
 use Rattle.house.specs.Plan.{planSound}
 use Rattle.house.specs.declared.Plan.{Plan}
+use Rattle.house.specs.Pairs.{noBallot, noStamp, noRow}
 use Rattle.records.specs.Format.{ballotsIn, stampsIn, rowsIn}
 use Rattle.records.specs.Fields.{ballots, stamps, rows}
-use Rattle.records.specs.Bytes.{headBytes, ballotBytes, stampBytes, rowBytes, encode, stampsAt, rowsAt, lengthOf}
+use Rattle.records.specs.Bytes.{headBytes, ballotBytes, stampBytes, rowBytes, encode, stampsAt, rowsAt, lengthOf, parse}
 use Rattle.records.proofs.laws.Table.{ballots-most, stamps-most, rows-most, mostRecord, length-most, deliver-length}
 use Rattle.records.specs.declared.Record.{Record}
 use Rattle.records.proofs.laws.Sections.{section-length}
@@ -75,3 +77,15 @@ module _ (P : Plan) (r : Record) (sound : planSound P ≡ true) (A : Arrays r) w
 -- a DELIVER has 21 bytes
 pub deliver-bytes : (P : Plan) (r : Record) → planSound P ≡ true → Arrays r → r .kind ≡ 4 → length (encode P r) ≡ 21
 deliver-bytes P r s A e = encode-length P r s A ∙ ap (lengthOf P) e ∙ deliver-length P
+
+-- what is read has the arrays of the code
+pub parse-arrays : (P : Plan) (s : List ℕ) → planSound P ≡ true → Arrays (parse P s)
+unfolding parse
+parse-arrays P s sound =
+    let k = getD s 1 0 in
+    let b = ballots-most P k sound in let n = stamps-most k in let t = rows-most P k sound in
+    record {
+      four = length-append (decRow ballots (ballotsIn P k) (drop 6 s)) (replicate (mostDistricts - ballotsIn P k) noBallot) ∙ rw (row-read-length, length-replicate) (omega arith);
+      two = length-append (decRow stamps (stampsIn k) (drop (stampsAt P k + 1) s)) (replicate (2 - stampsIn k) noStamp) ∙ rw (row-read-length, length-replicate) (omega arith);
+      many = length-append (decRow rows (rowsIn P k) (drop (rowsAt P k + 1) s)) (replicate (mostJobs - rowsIn P k) noRow) ∙ rw (row-read-length, length-replicate) (omega arith);
+    }

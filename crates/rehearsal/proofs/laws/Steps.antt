@@ -30,8 +30,8 @@ use Rattle.boxes.specs.Step.{receives, retried, stood, cutOff}
 use Rattle.boxes.specs.declared.BoxState.{BoxState}
 use Rattle.sending.specs.Sends.{Sends, sentBytes}
 use Rattle.stays_sound.proofs.laws.Sends.{Every, no-step, a-step}
-use Rattle.stays_sound.specs.Sound.{Lengths}
-use Rattle.stays_sound.proofs.laws.Sound.{sound-is}
+use Rattle.boxes.specs.Lengths.{Lengths}
+use Rattle.boxes.proofs.laws.Sound.{sound-is}
 use Rattle.stays_sound.proofs.laws.Goods.{Keeps}
 use Rattle.stays_sound.proofs.laws.Steps.{retried-every, stood-every, cut-off-every, posts-fit}
 use Rattle.steps.proofs.laws.Acting.{every-fits, guard-on}

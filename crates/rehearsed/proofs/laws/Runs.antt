@@ -21,6 +21,7 @@ use Rattle.records.proofs.laws.Rec.{meaning-carried}
 use Rattle.spelling.proofs.laws.Round.{parse-encode}
 use Rattle.boxes.specs.Box.{fresh}
 use Rattle.boxes.specs.Out.{Out, refused, does}
+use Rattle.stays_sound.proofs.laws.Sends.{arrays}
 use Rattle.world.specs.World as Worlds
 use Rattle.world.specs.World.{World, freshBoxes, new, run, step, recordAt}
 use Rattle.world.proofs.laws.Boxes.{fresh-length, fresh-at}
@@ -30,7 +31,6 @@ use Rattle.rehearsal.specs.Night as Nights
 use Rattle.rehearsal.specs.Night.{freshNight}
 use Rattle.rehearsal.specs.declared.Night.{Night}
 use Rattle.rehearsal.specs.declared.Order.{Order}
-use Rattle.rehearsed.proofs.laws.Walk.{arrays}
 use Rattle.rehearsed.proofs.laws.Same.{told, Same, bytes-same}
 use Rattle.rehearsed.specs.Turns.{nightAfter, postAfter}
 use Rattle.rehearsed.proofs.laws.Turns.{Alike, both-refuse, both-do, full, alike}

@@ -26,18 +26,18 @@ use Rattle.boxes.specs.Post.{posts}
 use Rattle.boxes.specs.Step.{takes, receives, stood, retried, cutOff}
 use Rattle.boxes.specs.declared.BoxState.{BoxState}
 use Rattle.boxes.specs.declared.Delivery.the-variants.{Nothing}
+use Rattle.stays_sound.proofs.laws.Sends.{Good, Sized, arrays}
 use Rattle.world.specs.World as Worlds
 use Rattle.world.specs.World.{World, boxAt, recordAt, post, stand, retry, cut, carry}
-use Rattle.stays_sound.proofs.laws.Sends.{Good, Sized}
 use Rattle.world.proofs.laws.Boxes.{some-box}
 use Rattle.world.proofs.laws.Reached.{Reached, record-good, record-box}
-use Rattle.rehearsal.specs.Night as Nights
 use Rattle.post.specs.Posting.{roomOf, startOf, bytesFrom, toBox}
+use Rattle.rehearsal.specs.Night as Nights
 use Rattle.rehearsal.specs.Night.{boxIn, ifFits}
 use Rattle.rehearsal.specs.declared.Night.{Night}
 use Rattle.rehearsal.specs.declared.Order.{Order}
 use Rattle.rehearsal.specs.declared.Order.the-variants.{Post, Stand, Retry, Cut, Carry}
-use Rattle.rehearsed.proofs.laws.Walk.{arrays, inside, to-is, bytes-are}
+use Rattle.rehearsed.proofs.laws.Walk.{inside, to-is, bytes-are}
 
 -- ---- side by side
 

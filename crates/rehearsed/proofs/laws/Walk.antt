@@ -20,15 +20,12 @@ use Rattle.house.specs.declared.Plan.{Plan}
 use Rattle.records.specs.Rec.{Rec, unknown, carried, addresseeOf}
 use Rattle.records.specs.Bytes.{headBytes, encode, encodeAll, lengthOf}
 use Rattle.records.specs.declared.Record.{Record}
-use Rattle.records.proofs.laws.Lengths.{Arrays, encode-length}
+use Rattle.records.proofs.laws.Lengths.{encode-length}
 use Rattle.records.proofs.laws.Shapes.{ballots-inside}
-use Rattle.stays_sound.proofs.laws.Sends.{Sized}
+use Rattle.stays_sound.proofs.laws.Sends.{Sized, arrays}
 use Rattle.post.specs.Posting.{lengthAt, nextStart, startOf, bytesFrom, toBox}
 
 -- ---- records one behind the other
-
-pub arrays : {r : Record} → Sized r → Arrays r
-arrays Z = record { four = Z .ballots; two = Z .stamps; many = Z .table }
 
 pub all-append : (P : Plan) (l k : List Rec) → encodeAll P (l ++ k) ≡ encodeAll P l ++ encodeAll P k
 unfolding encodeAll

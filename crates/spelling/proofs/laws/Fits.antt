@@ -1,35 +1,33 @@
 -- Every number of a record that obeys the rules fits its bytes.
 use Prim.Native.Nat.{ℕ, zero, suc, _^_, _<_}
-use mathlib.Core.Bool.{true, not, _&&_, _||_}
-use mathlib.Core.List.{List}
+use mathlib.Core.Bool.{true}
 use mathlib.Core.Logic.{⊎-elim}
 use mathlib.Core.Path.{_≡_, refl}
 use native.Mathlib.Omega.{arith}
 use lib.ListN.{getD}
-use lib.Dec.{leb, eqb}
+use lib.Dec.{leb}
 use borrow.Author.Tests.{leb-true}
 use Rattle.laws.specs.Choice.{pick, and-left, and-right}
-use Rattle.laws.proofs.laws.Choice.{pick-cases, or-cases}
-use Rattle.laws.proofs.laws.Fold.{all-says}
-use Rattle.house.specs.Limits.{mostTime}
-use Rattle.house.specs.Pairs.{district, noBallot, noRow, stampLt, ballotLt, isNoStamp, isNoBallot, timeFits, stampOf, ballotOf}
-use Rattle.house.proofs.laws.Orders.{no-stamp-says, no-ballot-says, stamp-of-says, ballot-of-says}
+use Rattle.house.specs.Pairs.{district, noRow, stampOf, ballotOf}
+use Rattle.house.proofs.laws.Orders.{stamp-of-says, ballot-of-says}
 use Rattle.house.specs.declared.Stamp.{Stamp}
 use Rattle.house.specs.declared.Ballot.{Ballot}
 use Rattle.house.specs.declared.BoxNo.{BoxNo}
 use Rattle.house.specs.declared.District.{District}
 use Rattle.house.specs.declared.Row.{Row}
-use Rattle.house.specs.Plan.{isJob, homeOf, names, ballotIn, noneOrIn, stampNamed}
-use Rattle.house.proofs.laws.Says.{ballot-in-says, stamp-named-says}
+use Rattle.house.specs.Plan.{homeOf, ballotIn, noneOrIn, stampNamed}
+use Rattle.house.proofs.laws.Says.{ballot-in-says, none-or-in-says, stamp-named-says}
 use Rattle.house.specs.declared.Plan.{Plan}
 use Rattle.records.specs.Format.{known, mostKind, entry, orPlan, ballotsIn, stampsIn, rowsIn}
 use Rattle.records.specs.Rec.{meaning, ballotNo, stampNo}
-use Rattle.records.specs.Rules.{clockOf, bothStamps, startRow, openRow, doneRow, rowSound, rowsSound, noneProposed, ballotFor, ballotsFor, boxes, neighbours, others, rules}
+use Rattle.records.specs.Rules.{clockOf, bothStamps, rules}
 use Rattle.records.proofs.laws.Kinds.{says-accept, says-accept-ack, says-deliver, says-newleader, says-newleader-ack, says-new-state, says-newstate-ack}
 use Rattle.records.specs.declared.Record.{Record}
+use Rattle.records.proofs.laws.Rows.{RowOk, at-start, at-open, at-done, both-say, clock-says}
+use Rattle.records.proofs.laws.Obeys.{BallotFor, for-named, for-other, Told, rules-say}
 
 -- a known kind is one of eight
-pub each-kind : (C : ℕ → Type 0) → C 1 → C 2 → C 3 → C 4 → C 5 → C 6 → C 7 → C 8 → (k : ℕ) → known k ≡ true → C k
+each-kind : (C : ℕ → Type 0) → C 1 → C 2 → C 3 → C 4 → C 5 → C 6 → C 7 → C 8 → (k : ℕ) → known k ≡ true → C k
 unfolding known
 each-kind C a b c d e f g h zero q = absurd (omega (arith, leb-true 1 0 (and-left (leb 1 0) (leb 0 mostKind) q)))
 each-kind C a b c d e f g h (suc zero) q = a
@@ -54,12 +52,6 @@ StampFits s = s .time < 2 ^ 32
 abbrev pub RowFits : Row → Type 0
 RowFits r = StampFits (r .local) × StampFits (r .global)
 
-no-ballot-fits : (b : Ballot) → isNoBallot b ≡ true → BallotFits b
-no-ballot-fits b h = rw (no-ballot-says b h) (omega arith)
-
-no-stamp-fits : (s : Stamp) → isNoStamp s ≡ true → StampFits s
-no-stamp-fits s h = rw (no-stamp-says s h) (omega arith)
-
 ballot-of-fits : (p : BoxNo) (b : Ballot) → ballotOf p b ≡ true → BallotFits b
 ballot-of-fits p b h = omega (arith, ballot-of-says p b h .0 .fits)
 
@@ -67,14 +59,11 @@ ballot-in-fits : (P : Plan) (d : District) (b : Ballot) → ballotIn P d b ≡ t
 ballot-in-fits P d b h = omega (arith, ballot-in-says P d b h .real .fits)
 
 none-or-in-fits : (P : Plan) (d : District) (b : Ballot) → noneOrIn P d b ≡ true → BallotFits b
-unfolding noneOrIn
-none-or-in-fits P d b h = ⊎-elim (no-ballot-fits b) (ballot-in-fits P d b) (or-cases (isNoBallot b) (ballotIn P d b) h)
+none-or-in-fits P d b h = ⊎-elim (λ e. rw e (omega arith)) (λ B. omega (arith, B .real .fits)) (none-or-in-says P d b h)
 
-ballot-for-fits : (P : Plan) (j : ℕ) (bs : List Ballot) (d : ℕ) → ballotFor P j bs d ≡ true → BallotFits (getD bs d noBallot)
-unfolding ballotFor
-ballot-for-fits P j bs d h =
-    pick-cases (names P j (district d)) (ballotIn P (district d) (getD bs d noBallot)) (isNoBallot (getD bs d noBallot)) h
-    (λ _ q. ballot-in-fits P (district d) (getD bs d noBallot) q) (λ _ q. no-ballot-fits (getD bs d noBallot) q)
+ballot-for-fits : (P : Plan) (j d : ℕ) (b : Ballot) → BallotFor P j d b → BallotFits b
+ballot-for-fits P j d b (for-named n h) = ballot-in-fits P (district d) b h
+ballot-for-fits P j d b (for-other n e) = rw e (omega arith)
 
 stamp-of-fits : (d : District) (s : Stamp) → stampOf d s ≡ true → StampFits s
 stamp-of-fits d s h = omega (arith, stamp-of-says d s h .0 .fits)
@@ -83,38 +72,15 @@ stamp-named-fits : (P : Plan) (j : ℕ) (s : Stamp) → stampNamed P j s ≡ tru
 stamp-named-fits P j s h = omega (arith, stamp-named-says P j s h .0 .fits)
 
 clock-fits : (d : District) (s : Stamp) → clockOf d s ≡ true → StampFits s
-unfolding clockOf timeFits
-clock-fits d s h = omega (arith, leb-true (s .time) mostTime (and-left (leb (s .time) mostTime) (eqb (s .district .0) (d .0)) h))
+clock-fits d s h = omega (arith, clock-says d s h)
 
 both-fit : (P : Plan) (j : ℕ) (d : District) (l g : Stamp) → bothStamps P j d l g ≡ true → StampFits l × StampFits g
-unfolding bothStamps
-both-fit P j d l g h =
-    let t = and-right (stampOf d l) (stampNamed P j g && not (stampLt g l)) h in
-    (stamp-of-fits d l (and-left (stampOf d l) (stampNamed P j g && not (stampLt g l)) h), stamp-named-fits P j g (and-left (stampNamed P j g) (not (stampLt g l)) t))
+both-fit P j d l g h = let B = both-say P j d l g h in (stamp-of-fits d l (B .local), stamp-named-fits P j g (B .global))
 
-row-fits : (P : Plan) (d : District) (j : ℕ) (r : Row) → rowSound P d j r ≡ true → RowFits r
-unfolding rowSound startRow openRow doneRow
-row-fits P d j r h = ⊎-elim start named (or-cases (startRow r) (names P j d && (openRow d r || doneRow P j d r)) h)
-  where
-    start : startRow r ≡ true → RowFits r
-    start e =
-        let t = and-right (eqb (r .phase) 0) (isNoStamp (r .local) && isNoStamp (r .global)) e in
-        (no-stamp-fits (r .local) (and-left (isNoStamp (r .local)) (isNoStamp (r .global)) t), no-stamp-fits (r .global) (and-right (isNoStamp (r .local)) (isNoStamp (r .global)) t))
-
-    half : openRow d r ≡ true → RowFits r
-    half e =
-        let t = and-right (eqb (r .phase) 1 || eqb (r .phase) 2) (stampOf d (r .local) && isNoStamp (r .global)) e in
-        (stamp-of-fits d (r .local) (and-left (stampOf d (r .local)) (isNoStamp (r .global)) t), no-stamp-fits (r .global) (and-right (stampOf d (r .local)) (isNoStamp (r .global)) t))
-
-    whole : doneRow P j d r ≡ true → RowFits r
-    whole e = both-fit P j d (r .local) (r .global) (and-right (eqb (r .phase) 3) (bothStamps P j d (r .local) (r .global)) e)
-
-    named : names P j d && (openRow d r || doneRow P j d r) ≡ true → RowFits r
-    named e = ⊎-elim half whole (or-cases (openRow d r) (doneRow P j d r) (and-right (names P j d) (openRow d r || doneRow P j d r) e))
-
-rows-fit : (P : Plan) (d : District) (t : List Row) (n : ℕ) → rowsSound P d t n ≡ true → (i : ℕ) → i < n → RowFits (getD t i noRow)
-unfolding rowsSound
-rows-fit P d t n h i l = row-fits P d i (getD t i noRow) (all-says (λ j. rowSound P d j (getD t j noRow)) n h i l)
+row-fits : (P : Plan) (d : District) (j : ℕ) (r : Row) → RowOk P d j r → RowFits r
+row-fits P d j r (at-start e) = rw e (omega arith, omega arith)
+row-fits P d j r (at-open n p l g) = (stamp-of-fits d (r .local) l, rw g (omega arith))
+row-fits P d j r (at-done n p b) = both-fit P j d (r .local) (r .global) b
 
 -- all numbers of a record of kind k
 pub record FitAt (P : Plan) (r : Record) (k : ℕ) : Type 0 where
@@ -149,90 +115,73 @@ module _ (P : Plan) (r : Record) where
 
   -- what each kind's rules say of its numbers
   abbrev Part : ℕ → Type 0
-  Part k = r .kind ≡ k → rules P (meaning r) ≡ true → FitAt P r k
+  Part k = r .kind ≡ k → Told P (meaning r) → FitAt P r k
 
   fit-multicast : Part 1
   unfolding ballotsIn stampsIn rowsIn orPlan pick entry
   fit-multicast e h = record { ballots-fit = none-below Bs; stamps-fit = none-below Ss; table-fits = none-below Ts }
 
   fit-accept : Part 2
-  unfolding ballotsIn stampsIn rowsIn orPlan pick entry rules
+  unfolding ballotsIn stampsIn rowsIn orPlan pick entry
   fit-accept e h =
-      let b = ballotOf (r .from) (ballotNo r 0) in let s = stampOf home (stampNo r 0) in
-      let t = and-right (boxes P (r .from) (r .to) && isJob P (r .job)) (b && (s && names P (r .job) home)) (rw (says-accept r e) at h) in
+      let o = rw (says-accept r e) at h in
       record {
-        ballots-fit = one-below Bs (ballot-of-fits (r .from) (ballotNo r 0) (and-left b (s && names P (r .job) home) t));
-        stamps-fit = one-below Ss (stamp-of-fits home (stampNo r 0) (and-left s (names P (r .job) home) (and-right b (s && names P (r .job) home) t)));
+        ballots-fit = one-below Bs (ballot-of-fits (r .from) (ballotNo r 0) (o .own-ballot));
+        stamps-fit = one-below Ss (stamp-of-fits home (stampNo r 0) (o .home-stamp));
         table-fits = none-below Ts;
       }
 
   fit-accept-ack : Part 3
-  unfolding ballotsIn stampsIn rowsIn orPlan pick entry rules ballotsFor
+  unfolding ballotsIn stampsIn rowsIn orPlan pick entry
   fit-accept-ack e h =
-      let n = names P (r .job) home in let b = ballotsFor P (r .job) (r .ballots) (P .districts) in
-      let t = and-right n b (and-right (boxes P (r .from) (r .to) && isJob P (r .job)) (n && b) (rw (says-accept-ack r e) at h)) in
-      record {
-        ballots-fit = λ i l. ballot-for-fits P (r .job) (r .ballots) i (all-says (ballotFor P (r .job) (r .ballots)) (P .districts) t i l);
-        stamps-fit = none-below Ss;
-        table-fits = none-below Ts;
-      }
+      let o = rw (says-accept-ack r e) at h in
+      record { ballots-fit = λ i l. ballot-for-fits P (r .job) i (ballotNo r i) (o .vector .place i l); stamps-fit = none-below Ss; table-fits = none-below Ts }
 
   fit-deliver : Part 4
-  unfolding ballotsIn stampsIn rowsIn orPlan pick entry rules
+  unfolding ballotsIn stampsIn rowsIn orPlan pick entry
   fit-deliver e h =
-      let b = ballotOf (r .from) (ballotNo r 0) in let s = bothStamps P (r .job) home (stampNo r 0) (stampNo r 1) in
-      let t = and-right (neighbours P (r .from) (r .to) && isJob P (r .job)) (b && s) (rw (says-deliver r e) at h) in
-      let f = both-fit P (r .job) home (stampNo r 0) (stampNo r 1) (and-right b s t) in
+      let o = rw (says-deliver r e) at h in
+      let f = both-fit P (r .job) home (stampNo r 0) (stampNo r 1) (o .stamps) in
       record {
-        ballots-fit = one-below Bs (ballot-of-fits (r .from) (ballotNo r 0) (and-left b s t));
+        ballots-fit = one-below Bs (ballot-of-fits (r .from) (ballotNo r 0) (o .own-ballot));
         stamps-fit = two-below Ss (f .0) (f .1);
         table-fits = none-below Ts;
       }
 
   fit-newleader : Part 5
-  unfolding ballotsIn stampsIn rowsIn orPlan pick entry rules
+  unfolding ballotsIn stampsIn rowsIn orPlan pick entry
   fit-newleader e h =
-      let b = ballotOf (r .from) (ballotNo r 0) in
-      let t = and-right (neighbours P (r .from) (r .to)) b (rw (says-newleader r e) at h) in
-      record { ballots-fit = one-below Bs (ballot-of-fits (r .from) (ballotNo r 0) t); stamps-fit = none-below Ss; table-fits = none-below Ts }
+      let o = rw (says-newleader r e) at h in
+      record { ballots-fit = one-below Bs (ballot-of-fits (r .from) (ballotNo r 0) (o .own-ballot)); stamps-fit = none-below Ss; table-fits = none-below Ts }
 
   fit-newleader-ack : Part 6
-  unfolding ballotsIn stampsIn rowsIn orPlan pick entry rules
+  unfolding ballotsIn stampsIn rowsIn orPlan pick entry
   fit-newleader-ack e h =
-      let n = neighbours P (r .from) (r .to) in let b = ballotOf (r .to) (ballotNo r 0) in
-      let l = ballotLt (ballotNo r 1) (ballotNo r 0) in let i = noneOrIn P home (ballotNo r 1) in
-      let c = clockOf home (stampNo r 0) in let t = rowsSound P home (r .table) (P .jobs) in
-      let v = rw (says-newleader-ack r e) at h in
-      let w = and-right (n && b) ((l && i) && (c && t)) v in
-      let x = and-right l i (and-left (l && i) (c && t) w) in
-      let y = and-right (l && i) (c && t) w in
+      let o = rw (says-newleader-ack r e) at h in
       record {
-        ballots-fit = two-below Bs (ballot-of-fits (r .to) (ballotNo r 0) (and-right n b (and-left (n && b) ((l && i) && (c && t)) v))) (none-or-in-fits P home (ballotNo r 1) x);
-        stamps-fit = one-below Ss (clock-fits home (stampNo r 0) (and-left c t y));
-        table-fits = rows-fit P home (r .table) (P .jobs) (and-right c t y);
+        ballots-fit = two-below Bs (ballot-of-fits (r .to) (ballotNo r 0) (o .its-ballot)) (none-or-in-fits P home (ballotNo r 1) (o .cballot-home));
+        stamps-fit = one-below Ss (clock-fits home (stampNo r 0) (o .clock));
+        table-fits = λ i l. row-fits P home i (getD (r .table) i noRow) (o .table .row i l);
       }
 
   fit-new-state : Part 7
-  unfolding ballotsIn stampsIn rowsIn orPlan pick entry rules
+  unfolding ballotsIn stampsIn rowsIn orPlan pick entry
   fit-new-state e h =
-      let n = others P (r .from) (r .to) in let b = ballotOf (r .from) (ballotNo r 0) in
-      let c = clockOf home (stampNo r 0) in let t = rowsSound P home (r .table) (P .jobs) in let p = noneProposed (r .table) (P .jobs) in
-      let v = rw (says-new-state r e) at h in
-      let y = and-right (n && b) (c && (t && p)) v in
+      let o = rw (says-new-state r e) at h in
       record {
-        ballots-fit = one-below Bs (ballot-of-fits (r .from) (ballotNo r 0) (and-right n b (and-left (n && b) (c && (t && p)) v)));
-        stamps-fit = one-below Ss (clock-fits home (stampNo r 0) (and-left c (t && p) y));
-        table-fits = rows-fit P home (r .table) (P .jobs) (and-left t p (and-right c (t && p) y));
+        ballots-fit = one-below Bs (ballot-of-fits (r .from) (ballotNo r 0) (o .own-ballot));
+        stamps-fit = one-below Ss (clock-fits home (stampNo r 0) (o .clock));
+        table-fits = λ i l. row-fits P home i (getD (r .table) i noRow) (o .table .row i l);
       }
 
   fit-newstate-ack : Part 8
-  unfolding ballotsIn stampsIn rowsIn orPlan pick entry rules
+  unfolding ballotsIn stampsIn rowsIn orPlan pick entry
   fit-newstate-ack e h =
-      let b = ballotOf (r .to) (ballotNo r 0) in
-      let t = and-right (others P (r .from) (r .to)) b (rw (says-newstate-ack r e) at h) in
-      record { ballots-fit = one-below Bs (ballot-of-fits (r .to) (ballotNo r 0) t); stamps-fit = none-below Ss; table-fits = none-below Ts }
+      let o = rw (says-newstate-ack r e) at h in
+      record { ballots-fit = one-below Bs (ballot-of-fits (r .to) (ballotNo r 0) (o .its-ballot)); stamps-fit = none-below Ss; table-fits = none-below Ts }
 
   -- for a known kind
   pub rules-fit : known (r .kind) ≡ true → rules P (meaning r) ≡ true → FitAt P r (r .kind)
   rules-fit k h =
-      each-kind Part fit-multicast fit-accept fit-accept-ack fit-deliver fit-newleader fit-newleader-ack fit-new-state fit-newstate-ack (r .kind) k refl h
+      each-kind Part fit-multicast fit-accept fit-accept-ack fit-deliver fit-newleader fit-newleader-ack fit-new-state fit-newstate-ack (r .kind) k refl
+      (rules-say P (meaning r) h)

@@ -17,9 +17,9 @@ use Rattle.records.specs.Outcome.{writeBytes, readRecord}
 use Rattle.records.proofs.laws.Outcome.{writes, reads, write-says, write-is, read-says, read-is}
 use Rattle.records.specs.declared.Record.{Record}
 use Rattle.records.specs.declared.Answer.the-variants.{Done}
-use Rattle.records.proofs.laws.Lengths.{Arrays}
-use Rattle.spelling.proofs.laws.Round.{parse-encode, encode-shaped, encode-parse, parse-arrays}
-use Rattle.spelling.proofs.laws.Meanings.{one-carrier}
+use Rattle.records.proofs.laws.Lengths.{Arrays, parse-arrays}
+use Rattle.records.proofs.laws.Structs.{one-carrier}
+use Rattle.spelling.proofs.laws.Round.{parse-encode, encode-shaped, encode-parse}
 
 -- the bytes of a valid record are read as that record
 pub read-encoded : (P : Plan) (r : Record) → planSound P ≡ true → Arrays r → valid P r ≡ true → reads P (encode P r) ≡ record { answer = Done; rec = r }

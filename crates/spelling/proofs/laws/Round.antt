@@ -1,51 +1,31 @@
--- Laws of what specs/Round.antt defines.
+-- Reading what was written gives the record back; writing what was read gives the bytes back. For any kind at once.
 use Prim.Native.Nat.{ℕ, _+_, _-_, _*_, _≤_}
 use mathlib.Core.Bool.{Bool, true, false, _&&_, _||_}
 use mathlib.Core.List.{List, [], _∷_, _++_, append-assoc, append-nil}
 use mathlib.Core.Path.{_≡_, refl, sym, ap, _∙_}
 use native.Mathlib.Omega.{arith}
-use lib.ListN.{length, take, drop, getD, replicate, length-append, length-replicate}
+use lib.ListN.{length, take, drop, getD, replicate}
 use lib.Dec.{eqb}
 use lib.Seq.{take-all, take-add, take-at, drop-at, drop-drop, getD-drop}
-use Rattle.laws.specs.Choice.{and-left, and-right}
 use Rattle.laws.specs.Codec.{encRow, decRow, row-read-length}
 use Rattle.laws.specs.Number.{Bytes}
 use Rattle.house.specs.Limits.{mostDistricts, mostJobs, noJob}
 use Rattle.house.specs.Pairs.{noStamp, noBallot, noRow, sameStamp, sameBallot, isNoStamp, isNoBallot}
-use Rattle.house.proofs.laws.Orders.{no-stamp-says, no-ballot-says}
 use Rattle.house.specs.Plan.{planSound}
 use Rattle.house.specs.declared.Plan.{Plan}
-use Rattle.records.specs.Format.{known, ballotsIn, stampsIn, rowsIn, hasJob}
+use Rattle.records.specs.Format.{ballotsIn, stampsIn, rowsIn, hasJob}
 use Rattle.records.specs.Fields.{ballots, stamps, rows}
-use Rattle.records.specs.Rec.{meaning}
-use Rattle.records.specs.Rules.{startRow, isNoRow, spareBallots, spareStamps, spareRows, spare, rules, valid}
+use Rattle.records.specs.Rules.{startRow, isNoRow, spareBallots, spareStamps, spareRows, spare, valid}
 use Rattle.records.specs.Bytes.{headBytes, ballotBytes, stampBytes, rowBytes, encode, stampsAt, rowsAt, lengthOf, shaped, parse}
 use Rattle.records.proofs.laws.Table.{ballots-most, stamps-most, rows-most}
 use Rattle.records.specs.declared.Record.{Record}
 use Rattle.records.proofs.laws.Sections.{section-read, section-again, fit-front}
 use Rattle.records.proofs.laws.Lengths.{Arrays, ballots-here, stamps-here, rows-here, before-stamps, before-rows, encode-length}
 use Rattle.records.proofs.laws.Shapes.{Shape, shape-says, shape-is, ballots-inside, stamps-inside, rows-inside}
-use Rattle.spelling.proofs.laws.Filled.{filled, spare-filled, no-row-says}
+use Rattle.records.proofs.laws.Obeys.{Valid, valid-parts}
+use Rattle.records.proofs.laws.Structs.{Behind, behind, front-split}
+use Rattle.spelling.proofs.laws.Filled.{spare-filled}
 use Rattle.spelling.proofs.laws.Fits.{FitAt, rules-fit}
-use Rattle.spelling.specs.Round.{Valid}
-
-pub valid-says : (P : Plan) (r : Record) → valid P r ≡ true → Valid P r
-unfolding valid spare
-valid-says P r h =
-    let k = known (r .kind) in let j = hasJob (r .kind) || eqb (r .job) noJob in
-    let b = spareBallots (r .ballots) (ballotsIn P (r .kind)) in let s = spareStamps (r .stamps) (stampsIn (r .kind)) in
-    let t = spareRows (r .table) (rowsIn P (r .kind)) in let o = rules P (meaning r) in
-    let x = and-right k ((j && ((b && s) && t)) && o) h in
-    let y = and-left (j && ((b && s) && t)) o x in
-    let z = and-right j ((b && s) && t) y in
-    record {
-      is-known = and-left k ((j && ((b && s) && t)) && o) h;
-      job-spare = and-left j ((b && s) && t) y;
-      ballots-spare = and-left b s (and-left (b && s) t z);
-      stamps-spare = and-right b s (and-left (b && s) t z);
-      rows-spare = and-right (b && s) t z;
-      obeys = and-right (j && ((b && s) && t)) o x;
-    }
 
 -- the byte at a place is the first of what lies from there on
 first-of : (s : List ℕ) (n : ℕ) → getD s n 0 ≡ getD (drop n s) 0 0
@@ -53,32 +33,36 @@ first-of s n = let e : n + 0 ≡ n = omega arith in ap (λ (i : ℕ). getD s i 0
 
 module _ (P : Plan) (r : Record) (sound : planSound P ≡ true) (A : Arrays r) (v : valid P r ≡ true) where
   parts : Valid P r
-  parts = valid-says P r v
+  parts = valid-parts P r v
+
+  -- nothing stands behind the sections
+  spares : Behind P r (r .kind)
+  spares = behind P r A (parts .behind)
 
   fit : FitAt P r (r .kind)
   fit = rules-fit P r (parts .is-known) (parts .obeys)
 
   -- each section is read back
   ballots-back : (more : List ℕ) → decRow ballots (ballotsIn P (r .kind)) (encRow ballots (take (ballotsIn P (r .kind)) (r .ballots)) ++ more) ++ replicate (mostDistricts - ballotsIn P (r .kind)) noBallot ≡ r .ballots
-  unfolding ballots spareBallots
+  unfolding ballots
   ballots-back more =
       let n = ballotsIn P (r .kind) in let h = ballots-here P r sound A in
       rw (section-read ballots (r .ballots) n more h (fit-front ballots noBallot (r .ballots) n h (fit .ballots-fit)))
-      (filled noBallot isNoBallot no-ballot-says (r .ballots) mostDistricts n (A .four) (parts .ballots-spare))
+      (sym (front-split (spares .ballots) (ballots-most P (r .kind) sound)))
 
   stamps-back : (more : List ℕ) → decRow stamps (stampsIn (r .kind)) (encRow stamps (take (stampsIn (r .kind)) (r .stamps)) ++ more) ++ replicate (2 - stampsIn (r .kind)) noStamp ≡ r .stamps
-  unfolding stamps spareStamps
+  unfolding stamps
   stamps-back more =
       let n = stampsIn (r .kind) in let h = stamps-here P r sound A in
       rw (section-read stamps (r .stamps) n more h (fit-front stamps noStamp (r .stamps) n h (fit .stamps-fit)))
-      (filled noStamp isNoStamp no-stamp-says (r .stamps) 2 n (A .two) (parts .stamps-spare))
+      (sym (front-split (spares .stamps) (stamps-most (r .kind))))
 
   rows-back : (more : List ℕ) → decRow rows (rowsIn P (r .kind)) (encRow rows (take (rowsIn P (r .kind)) (r .table)) ++ more) ++ replicate (mostJobs - rowsIn P (r .kind)) noRow ≡ r .table
-  unfolding rows spareRows
+  unfolding rows
   rows-back more =
       let n = rowsIn P (r .kind) in let h = rows-here P r sound A in
       rw (section-read rows (r .table) n more h (fit-front rows noRow (r .table) n h (fit .table-fits)))
-      (filled noRow isNoRow no-row-says (r .table) mostJobs n (A .many) (parts .rows-spare))
+      (sym (front-split (spares .rows) (rows-most P (r .kind) sound)))
 
   -- where the sections lie in the bytes
   at-ballots : drop 6 (encode P r) ≡ encRow ballots (take (ballotsIn P (r .kind)) (r .ballots)) ++ (stampBytes r ++ rowBytes P r)
@@ -179,30 +163,17 @@ first-five (a ∷ b ∷ c ∷ d ∷ e ∷ s) h = refl
 fronts : (s : List ℕ) (n m t : ℕ) → n + m ≡ t → take n s ++ take m (drop n s) ≡ take t s
 fronts s n m t e = sym (take-add n m s) ∙ ap (λ (k : ℕ). take k s) e
 
-module _ (P : Plan) (s : List ℕ) (sound : planSound P ≡ true) where
-  -- what is read has the arrays of the code
-  pub parse-arrays : Arrays (parse P s)
-  unfolding parse
-  parse-arrays =
-      let k = getD s 1 0 in
-      let b = ballots-most P k sound in let n = stamps-most k in let t = rows-most P k sound in
-      record {
-        four = length-append (decRow ballots (ballotsIn P k) (drop 6 s)) (replicate (mostDistricts - ballotsIn P k) noBallot) ∙ rw (row-read-length, length-replicate) (omega arith);
-        two = length-append (decRow stamps (stampsIn k) (drop (stampsAt P k + 1) s)) (replicate (2 - stampsIn k) noStamp) ∙ rw (row-read-length, length-replicate) (omega arith);
-        many = length-append (decRow rows (rowsIn P k) (drop (rowsAt P k + 1) s)) (replicate (mostJobs - rowsIn P k) noRow) ∙ rw (row-read-length, length-replicate) (omega arith);
-      }
-
-  -- and none behind each section: only the job byte of a kind without a job can be wrong there
-  pub parse-spare : spare P (parse P s) ≡ hasJob (getD s 1 0) || eqb (getD s 4 0) noJob
-  unfolding spare spareBallots spareStamps spareRows parse isNoRow startRow isNoStamp isNoBallot sameStamp sameBallot
-  parse-spare =
-      let k = getD s 1 0 in
-      rw (
-        spare-filled noBallot isNoBallot refl (decRow ballots (ballotsIn P k) (drop 6 s)) mostDistricts (ballotsIn P k) (row-read-length ballots (ballotsIn P k) (drop 6 s)),
-        spare-filled noStamp isNoStamp refl (decRow stamps (stampsIn k) (drop (stampsAt P k + 1) s)) 2 (stampsIn k) (row-read-length stamps (stampsIn k) (drop (stampsAt P k + 1) s)),
-        spare-filled noRow isNoRow refl (decRow rows (rowsIn P k) (drop (rowsAt P k + 1) s)) mostJobs (rowsIn P k) (row-read-length rows (rowsIn P k) (drop (rowsAt P k + 1) s)),
-      )
-      (and-true (hasJob k || eqb (getD s 4 0) noJob))
+-- what is read has nothing behind its sections: only the job byte of a kind without a job can be wrong there
+pub parse-spare : (P : Plan) (s : List ℕ) → spare P (parse P s) ≡ hasJob (getD s 1 0) || eqb (getD s 4 0) noJob
+unfolding spare spareBallots spareStamps spareRows parse isNoRow startRow isNoStamp isNoBallot sameStamp sameBallot
+parse-spare P s =
+    let k = getD s 1 0 in
+    rw (
+      spare-filled noBallot isNoBallot refl (decRow ballots (ballotsIn P k) (drop 6 s)) mostDistricts (ballotsIn P k) (row-read-length ballots (ballotsIn P k) (drop 6 s)),
+      spare-filled noStamp isNoStamp refl (decRow stamps (stampsIn k) (drop (stampsAt P k + 1) s)) 2 (stampsIn k) (row-read-length stamps (stampsIn k) (drop (stampsAt P k + 1) s)),
+      spare-filled noRow isNoRow refl (decRow rows (rowsIn P k) (drop (rowsAt P k + 1) s)) mostJobs (rowsIn P k) (row-read-length rows (rowsIn P k) (drop (rowsAt P k + 1) s)),
+    )
+    (and-true (hasJob k || eqb (getD s 4 0) noJob))
 
 -- where the sections begin
 at-stamps-place : (P : Plan) (k : ℕ) → 5 + (1 + ballotsIn P k * 3) ≡ stampsAt P k

@@ -13,6 +13,7 @@ use borrow.Author.Tests.{lt-ltb}
 use Rattle.laws.specs.Choice.{pick-true}
 use Rattle.laws.proofs.laws.Choice.{never}
 use Rattle.laws.specs.Digits.{part, withDigit}
+use Rattle.laws.proofs.laws.Place.{at-each}
 use Rattle.house.specs.Limits.{mostDistricts, mostJobs, mostTime}
 use Rattle.house.specs.Pairs.{district, noStamp, noBallot}
 use Rattle.house.specs.declared.Stamp.{Stamp}
@@ -23,16 +24,16 @@ use Rattle.house.specs.Plan.{sizeOf, boxesOf, isBox, homeOf, names, planSound}
 use Rattle.house.proofs.laws.Says.{boxes-most, box-says, home-from, home-to}
 use Rattle.house.specs.declared.Plan.{Plan}
 use Rattle.house.specs.Marks.{noMarks, mostMarks, marked, marksIn}
+use Rattle.records.proofs.laws.Rows.{RowOk, TableOk, table-set}
 use Rattle.boxes.specs.Box.{keptAt, putMode, putTable, putRow, putSent, putListed, putKept, putMarks, putVote}
 use Rattle.boxes.specs.declared.BoxState.{BoxState}
 use Rattle.boxes.specs.declared.Vote.{Vote}
 use Rattle.boxes.specs.declared.Status.{Status}
-use Rattle.stays_sound.proofs.laws.Laws.{at-each, next-multiple, with-digit-low, part-below, part-above}
-use Rattle.stays_sound.specs.Rows.{RowOk, TableOk}
-use Rattle.stays_sound.proofs.laws.Rows.{table-set}
-use Rattle.stays_sound.specs.Parts.{BallotsOk, SentOk, KeptOk, KeptsOk, MarkOk, MarksOk}
+use Rattle.boxes.proofs.laws.Parts.{BallotsOk, SentOk, KeptOk, KeptsOk, MarkOk, MarksOk}
+use Rattle.boxes.proofs.laws.Sound.{VoteOk, SoundBox}
+use Rattle.boxes.specs.Lengths.{Lengths}
+use Rattle.stays_sound.proofs.laws.Laws.{next-multiple, with-digit-low, part-below, part-above}
 use Rattle.stays_sound.proofs.laws.Listing.{Addable, list-add}
-use Rattle.stays_sound.specs.Sound.{VoteOk, SoundBox, Lengths}
 
 -- a sound box with its arrays
 pub record Fine (P : Plan) (x : BoxState) : Type 0 where

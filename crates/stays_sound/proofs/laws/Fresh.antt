@@ -10,7 +10,7 @@ use Rattle.laws.proofs.laws.Choice.{never}
 use Rattle.laws.proofs.laws.Digits.{part-beyond}
 use Rattle.house.specs.Limits.{mostDistricts, mostJobs}
 use Rattle.house.specs.Pairs.{boxNo, noStamp, noBallot, noRow}
-use Rattle.house.proofs.laws.Orders.{ballotOrder}
+use Rattle.house.proofs.laws.Orders.{ballotOrder, no-ballot-is}
 use Rattle.house.specs.declared.Ballot.{Ballot}
 use Rattle.house.specs.declared.BoxNo.{BoxNo}
 use Rattle.house.specs.Plan.{boxesOf, isBox, homeOf, noneOrIn, sizeOf, planSound}
@@ -18,16 +18,14 @@ use Rattle.house.proofs.laws.Says.{box-is}
 use Rattle.house.specs.declared.Plan.{Plan}
 use Rattle.house.specs.Marks.{noMarks, marksIn}
 use Rattle.records.specs.Rec.{noRows}
+use Rattle.records.proofs.laws.Rows.{NoRows, no-rows-ok}
 use Rattle.boxes.specs.Box.{noListed, keptAt, noVote, fresh, freshVolatile}
 use Rattle.boxes.specs.Sound.{sound}
 use Rattle.boxes.specs.Cut.{cut}
 use Rattle.boxes.specs.declared.BoxState.{BoxState}
-use Rattle.stays_sound.specs.Rows.{NoRows}
-use Rattle.stays_sound.proofs.laws.Rows.{no-rows-ok}
-use Rattle.stays_sound.proofs.laws.Obeys.{no-ballot-is}
-use Rattle.stays_sound.specs.Parts.{not-kept, KeptsOk, MarkOk, MarksOk}
-use Rattle.stays_sound.specs.Sound.{VoteOk, not-held, SoundBox, Lengths}
-use Rattle.stays_sound.proofs.laws.Sound.{sound-says, sound-is}
+use Rattle.boxes.proofs.laws.Parts.{not-kept, KeptsOk, MarkOk, MarksOk}
+use Rattle.boxes.proofs.laws.Sound.{VoteOk, not-held, SoundBox, sound-says, sound-is}
+use Rattle.boxes.specs.Lengths.{Lengths}
 
 pub no-rows : NoRows noRows
 no-rows = record { row = λ j l. getD-replicate mostJobs j noRow noRow l }

@@ -22,10 +22,9 @@ use Rattle.records.specs.Format.{hasJob, entry}
 use Rattle.records.specs.Rec.{Rec, Proposal, Handout, Ballotpaper, NewState, multicast, accept, accept-ack, deliver, newleader, newleader-ack, new-state, newstate-ack, unknown, carried, senderOf, addresseeOf}
 use Rattle.records.specs.Bytes.{encode, encodeAll}
 use Rattle.records.specs.declared.Record.{Record}
+use Rattle.records.proofs.laws.Obeys.{Obeys, MulticastOk, AcceptOk, AckOk, DeliverOk, NewleaderOk, NewleaderAckOk, NewStateOk, NewstateAckOk, valid-says, valid-is}
 use Rattle.boxes.specs.Out.{Out, toEach}
 use Rattle.boxes.specs.declared.BoxState.{BoxState}
-use Rattle.stays_sound.specs.Obeys.{Obeys, MulticastOk, AcceptOk, AckOk, DeliverOk, NewleaderOk, NewleaderAckOk, NewStateOk, NewstateAckOk}
-use Rattle.stays_sound.proofs.laws.Obeys.{valid-says, valid-is}
 use Rattle.stays_sound.proofs.laws.Sends.{Every, no-step, a-step, Sized, Good, AllGood, in-each, each-most, home-most, good-nil, good-by}
 use Rattle.stays_sound.proofs.laws.Size.{sizeOfRec, record-size, few-most, size-most}
 use Rattle.stays_sound.specs.Size.{longestOutput}

@@ -12,7 +12,7 @@ use lib.Seq.{getD-set-other}
 use lib.Dec.{eqb}
 use borrow.Author.Tests.{eqb-true, eqb-false}
 use Rattle.laws.specs.Choice.{pick}
-use Rattle.laws.proofs.laws.Choice.{pick-when}
+use Rattle.laws.proofs.laws.Choice.{pick-when, both}
 use Rattle.laws.proofs.laws.Fold.{upto-keeps}
 use Rattle.laws.specs.Place.{In}
 use Rattle.laws.proofs.laws.Place.{in-nil, in-cases}
@@ -22,11 +22,10 @@ use Rattle.house.specs.Plan.{sizeOf, homeOf, sameHome}
 use Rattle.house.proofs.laws.Says.{plan-says, same-home-says}
 use Rattle.house.specs.declared.Plan.{Plan}
 use Rattle.records.specs.Rec.{Rec, Handout, deliver}
+use Rattle.records.proofs.laws.Rows.{row-done}
 use Rattle.boxes.specs.Box.{ownOf, rowAt}
 use Rattle.boxes.specs.Ready.{ready, better, nextBelow, nextReady, delivers, flagged, Handing, handNext, handTurns, handOut}
 use Rattle.boxes.specs.declared.BoxState.{BoxState}
-use Rattle.stays_sound.proofs.laws.Laws.{both}
-use Rattle.stays_sound.proofs.laws.Rows.{row-done}
 use Rattle.stays_sound.proofs.laws.Sends.{AllGood, good-nil, good-by, good-append, good-each, in-each, home-most}
 use Rattle.stays_sound.proofs.laws.Size.{sizeOfRec, hand-out-most}
 use Rattle.stays_sound.proofs.laws.Changes.{Fine, put-sent}

@@ -11,7 +11,7 @@ use lib.Seq.{getD-set-same}
 use lib.Dec.{ltb, eqb}
 use borrow.Author.Tests.{eqb-false, eq-eqb, ne-eqb, ltb-true, not-true}
 use Rattle.laws.specs.Choice.{pick, pick-false}
-use Rattle.laws.proofs.laws.Choice.{pick-when, pick-both, never, or-other, not-of}
+use Rattle.laws.proofs.laws.Choice.{pick-when, pick-both, never, or-other, not-of, both}
 use Rattle.laws.proofs.laws.Fold.{all-says, some-is}
 use Rattle.house.specs.Limits.{mostDistricts, mostJobs, mostTime}
 use Rattle.house.specs.Pairs.{district, stamp, noStamp, noBallot, noRow, stampLt, sameBallot, stampOf}
@@ -34,12 +34,11 @@ use Rattle.boxes.specs.Accept.{sameKept, kept, keptBelow, allKept, latestKept, 
 use Rattle.boxes.specs.AcceptAck.{agreeBelow, agree, enough, committed, whenMarked, onAcceptAck}
 use Rattle.boxes.specs.Deliver.{delivered, onDeliver}
 use Rattle.boxes.specs.declared.BoxState.{BoxState}
-use Rattle.stays_sound.proofs.laws.Laws.{both}
-use Rattle.stays_sound.specs.Rows.{RowOk, at-open, at-done}
-use Rattle.stays_sound.proofs.laws.Rows.{row-begun}
-use Rattle.stays_sound.specs.Obeys.{AcceptOk, AckOk, DeliverOk, BallotFor, for-named, for-other, Vector}
-use Rattle.stays_sound.specs.Parts.{is-kept, MarkOk}
-use Rattle.stays_sound.specs.Listing.{entryAt}
+use Rattle.boxes.proofs.laws.Answers.{under-or}
+use Rattle.records.proofs.laws.Rows.{RowOk, at-open, at-done, row-begun}
+use Rattle.records.proofs.laws.Obeys.{AcceptOk, AckOk, DeliverOk, BallotFor, for-named, for-other, Vector}
+use Rattle.boxes.proofs.laws.Parts.{is-kept, MarkOk}
+use Rattle.boxes.proofs.laws.Listing.{entryAt}
 use Rattle.stays_sound.proofs.laws.Listing.{Addable}
 use Rattle.stays_sound.proofs.laws.Fresh.{no-marks-ok}
 use Rattle.stays_sound.proofs.laws.Merge.{raised-most}
@@ -112,7 +111,8 @@ module _ {P : Plan} {x : BoxState} (F : Fine P x) where
 pub multicast-keeps : {P : Plan} {x : BoxState} (j : ℕ) → Fine P x → Every (Keeps P x) (onMulticast P x j)
 unfolding onMulticast
 multicast-keeps {P} {x} j F =
-    every-guard _ _ _
+    simp under-or
+    (every-guard _ _ _
     (λ n.
     every-guard _ _ _
     (λ l.
@@ -120,7 +120,7 @@ multicast-keeps {P} {x} j F =
     (λ c.
     let R = proposed-ok F j n l c in
     let g = accepts-good (R .fine) j (R .leads) (low-job F j (homeOf P (x .core .own)) n) (R .begun) in
-    a-step (record { fine = R .fine; same = R .same; good = good-by (R .same) g; fits = accepts-fit (R .fine) j g }))))
+    a-step (record { fine = R .fine; same = R .same; good = good-by (R .same) g; fits = accepts-fit (R .fine) j g })))))
 
 module _ {P : Plan} {x : BoxState} (F : Fine P x) where
   -- an ACCEPT that obeys the rules may be kept
@@ -206,7 +206,7 @@ when-kept {P} {x} j F n =
 pub accept-keeps : {P : Plan} {x : BoxState} (from : BoxNo) (j : ℕ) (y : Proposal) → Fine P x → AcceptOk P from (x .core .own) j y → Every (Keeps P x) (onAccept P x from j y)
 unfolding onAccept kept
 accept-keeps {P} {x} from j y F O =
-    every-guard _ _ _ (λ n. every-guard _ _ _ (λ r. every-guard _ _ _ (λ b. every-on refl (when-kept j (kept-fine F from j y O) n))))
+    simp under-or (every-guard _ _ _ (λ n. every-guard _ _ _ (λ r. every-guard _ _ _ (λ b. every-on refl (when-kept j (kept-fine F from j y O) n)))))
 
 -- the own district's ACCEPT is kept where the record agrees with it
 agree-some : {P : Plan} {x : BoxState} (j : ℕ) (bs : List Ballot) → Fine P x → agree P x j bs ≡ true → Vector P j bs → names P j (homeOf P (x .core .own)) ≡ true
@@ -245,7 +245,8 @@ when-marked {P} {x} j F n l k =
 pub accept-ack-keeps : {P : Plan} {x : BoxState} (from : BoxNo) (j : ℕ) (bs : List Ballot) → Fine P x → AckOk P from (x .core .own) j bs → Every (Keeps P x) (onAcceptAck P x from j bs)
 unfolding onAcceptAck marksAt keptBallot
 accept-ack-keeps {P} {x} from j bs F O =
-    every-guard _ _ _
+    simp under-or
+    (every-guard _ _ _
     (λ n.
     every-guard _ _ _
     (λ l.
@@ -255,7 +256,7 @@ accept-ack-keeps {P} {x} from j bs F O =
     (λ u.
     let h = low-job F j (homeOf P (x .core .own)) n in
     let G = put-marks F j (marked (marksAt x j) from) h (marked-ok P j (marksAt x j) from (F .sound .plan) (F .sound .marks .job j h) (O .sender) (O .named)) in
-    every-on refl (when-marked j G n l (agree-some j bs F a (O .vector) n))))))
+    every-on refl (when-marked j G n l (agree-some j bs F a (O .vector) n)))))))
 
 -- a job with a stamp above the last, not on the list
 delivered-addable : (P : Plan) (x : BoxState) (j : ℕ) (s : Stamp) → names P j (homeOf P (x .core .own)) ≡ true → stampNamed P j s ≡ true → stampLt (lastStamp x) s ≡ true
@@ -280,7 +281,8 @@ global-named P j d l g h = both {b = not (stampLt g l)} (both {a = stampOf d l} 
 pub deliver-keeps : {P : Plan} {x : BoxState} (from : BoxNo) (j : ℕ) (y : Handout) → Fine P x → DeliverOk P from (x .core .own) j y → Every (Keeps P x) (onDeliver P x j y)
 unfolding onDeliver delivered
 deliver-keeps {P} {x} from j y F O =
-    every-guard _ _ _ (λ n. every-guard _ _ _ (λ r. every-guard _ _ _ (λ b. every-guard _ _ _ (λ u. a-step (keeps-quiet (go n (both u)) refl)))))
+    simp under-or
+    (every-guard _ _ _ (λ n. every-guard _ _ _ (λ r. every-guard _ _ _ (λ b. every-guard _ _ _ (λ u. a-step (keeps-quiet (go n (both u)) refl))))))
   where
     stamps : bothStamps P j (homeOf P (x .core .own)) (y .local) (y .global) ≡ true
     stamps = rw (O .near .home) at (O .stamps)

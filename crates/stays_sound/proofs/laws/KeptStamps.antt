@@ -14,7 +14,7 @@ use Rattle.laws.specs.Lex.{larger}
 use Rattle.laws.proofs.laws.Lex.{larger-left, larger-right, le-trans, above-none}
 use Rattle.house.specs.Limits.{mostTime}
 use Rattle.house.specs.Pairs.{district, noStamp, noBallot, stampLt, isNoBallot, laterStamp, stampOf}
-use Rattle.house.proofs.laws.Orders.{stampOrder, stamp-of-says}
+use Rattle.house.proofs.laws.Orders.{stampOrder, stamp-of-says, no-ballot-is}
 use Rattle.house.specs.declared.Stamp.{Stamp}
 use Rattle.house.specs.declared.District.{District}
 use Rattle.house.specs.Plan.{names, ballotIn, stampNamed}
@@ -24,9 +24,8 @@ use Rattle.records.specs.Rules.{bothStamps}
 use Rattle.boxes.specs.Box.{keptBallot, keptStamp}
 use Rattle.boxes.specs.Accept.{keptBelow, latestKept}
 use Rattle.boxes.specs.declared.BoxState.{BoxState}
-use Rattle.stays_sound.proofs.laws.Obeys.{no-ballot-is}
-use Rattle.stays_sound.specs.Parts.{KeptOk, not-kept, is-kept}
-use Rattle.stays_sound.specs.Sound.{SoundBox}
+use Rattle.boxes.proofs.laws.Parts.{KeptOk, not-kept, is-kept}
+use Rattle.boxes.proofs.laws.Sound.{SoundBox}
 
 -- an ACCEPT is there for job j and district d
 pub record Holds (P : Plan) (x : BoxState) (j : ℕ) (d : District) : Type 0 where

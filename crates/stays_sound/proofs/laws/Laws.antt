@@ -1,23 +1,19 @@
--- Laws that speak of no box: distinct numbers below a bound, one place of a list set, one digit set,
--- and two facts out of one passed test.
+-- Laws that speak of no box: distinct numbers below a bound, and one digit set.
 use Prim.Native.Nat.{ℕ, zero, suc, _+_, _-_, _*_, _/_, _%_, _^_, _≤_, _<_}
-use mathlib.Core.Bool.{Bool, true, false, _&&_, _||_}
-use mathlib.Core.List.{List}
+use mathlib.Core.Bool.{true, false}
 use mathlib.Core.Logic.{_⊎_, inl, inr, _≢_}
 use mathlib.Core.Path.{_≡_, refl, sym, ap, _∙_}
 use native.Mathlib.Decide.{ℕ-discrete}
 use native.Mathlib.Nat.{div-eq-of-lt, mul-mod-left, mul-le-mul-right, suc-mul}
 use native.Mathlib.Omega.{arith}
-use lib.ListN.{length, getD, set}
-use lib.Seq.{getD-set-same, getD-set-other}
-use lib.Dec.{ltb, eqb}
+use lib.Dec.{eqb}
 use lib.Pow.{pow-lt, pow-add, shl-shr}
 use lib.Bits.{or-lt, or-shr, or-mod, or-zero-r}
-use borrow.Author.Tests.{eqb-true, eq-eqb, ne-eqb, ltb-false, le-ltb}
-use Rattle.laws.specs.Choice.{pick, pick-true, pick-false, and-left, and-right}
-use Rattle.laws.proofs.laws.Choice.{look, never, or-other}
-use Rattle.laws.specs.Fold.{allBelow, someBelow}
-use Rattle.laws.proofs.laws.Fold.{all-says, all-is, some-says, some-is}
+use borrow.Author.Tests.{eqb-true, eq-eqb, ne-eqb}
+use Rattle.laws.specs.Choice.{pick, pick-true, pick-false}
+use Rattle.laws.proofs.laws.Choice.{look, never}
+use Rattle.laws.specs.Fold.{someBelow}
+use Rattle.laws.proofs.laws.Fold.{some-says, some-is}
 use Rattle.laws.specs.Digits.{part, withDigit}
 
 -- ---- numbers
@@ -73,16 +69,6 @@ distinct-most (suc m) n f low once = go (look (someBelow (λ i. eqb (f i) m) n))
 pub next-multiple : (a c k : ℕ) → a < c → a * k + k ≤ c * k
 next-multiple a c k h = let m = mul-le-mul-right {m = suc a} {n = c} k h in let e = suc-mul a k in omega arith
 
--- ---- lists
-
--- what holds of the new element at its place and of the old ones elsewhere holds after a place is set
-pub at-each : {A : Type 0} (Q : A → Type 0) (l : List A) (i k : ℕ) (a d : A) → i < length l → (k ≡ i → Q a) → (k ≢ i → Q (getD l k d)) → Q (getD (set l i a) k d)
-at-each Q l i k a d h f g = go (ℕ-discrete k i)
-  where
-    go : Dec (k ≡ i) → Q (getD (set l i a) k d)
-    go (yes e) = rw (e, getD-set-same l i a d h) (f e)
-    go (no n) = rw (getD-set-other l i k a d n) (g n)
-
 -- ---- digits
 
 pub with-digit-low : (n w i : ℕ) → n < 2 ^ w → i < w → withDigit n i < 2 ^ w
@@ -100,30 +86,3 @@ part-above n i a k h =
     let e : i ≡ (i - a - k + k) + a = omega arith in
     let s : 2 ^ i / 2 ^ a ≡ 2 ^ (i - a - k) * 2 ^ k = ap (λ (x : ℕ). 2 ^ x / 2 ^ a) e ∙ rw (pow-add 2 (i - a - k + k) a, shl-shr (2 ^ (i - a - k + k)) a) (pow-add 2 (i - a - k) k) in
     rw (or-shr n (2 ^ i) a, s, or-mod (n / 2 ^ a) (2 ^ (i - a - k) * 2 ^ k) k, mul-mod-left, or-zero-r (n / 2 ^ a % 2 ^ k))
-
--- ---- tests
-
--- both parts of a passed test
-pub both : {a b : Bool} → a && b ≡ true → (a ≡ true) × (b ≡ true)
-both {a} {b} h = (and-left a b h, and-right a b h)
-
--- one of two tests holds where the second does whenever the first fails
-pub or-if : (a b : Bool) → (a ≡ false → b ≡ true) → a || b ≡ true
-or-if true b f = refl
-or-if false b f = f refl
-
--- a test that cannot hold fails
-pub not-so : (a : Bool) → (a ≡ true → ⊥) → a ≡ false
-not-so true f = absurd (f refl)
-not-so false f = refl
-
--- a test that holds of no number below n
-pub none-below : (t : ℕ → Bool) (n : ℕ) → ((i : ℕ) → i < n → t i ≡ true → ⊥) → someBelow t n ≡ false
-none-below t n f = not-so (someBelow t n) (λ h. let w = some-says t n h in f (w .0) (w .1) (w .2))
-
--- a test that is asked from place n on
-pub from-says : (t : ℕ → Bool) (n k : ℕ) → allBelow (λ i. ltb i n || t i) k ≡ true → (i : ℕ) → n ≤ i → i < k → t i ≡ true
-from-says t n k h i m l = or-other (ltb i n) (t i) (all-says (λ q. ltb q n || t q) k h i l) (le-ltb i n m)
-
-pub from-is : (t : ℕ → Bool) (n k : ℕ) → ((i : ℕ) → n ≤ i → i < k → t i ≡ true) → allBelow (λ i. ltb i n || t i) k ≡ true
-from-is t n k f = all-is (λ i. ltb i n || t i) k (λ i l. or-if (ltb i n) (t i) (λ e. f i (ltb-false i n e) l))

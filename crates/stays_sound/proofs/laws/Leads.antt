@@ -8,7 +8,7 @@ use native.Mathlib.Omega.{arith}
 use lib.ListN.{length, replicate, getD-replicate}
 use lib.Dec.{leb, eqb}
 use borrow.Author.Tests.{eqb-false, eq-eqb, leb-true, le-leb, not-true}
-use Rattle.laws.proofs.laws.Choice.{pick-both, never, or-right}
+use Rattle.laws.proofs.laws.Choice.{pick-both, never, or-right, both}
 use Rattle.laws.specs.Choice.{and-both}
 use Rattle.laws.proofs.laws.Lex.{lt-asym, le-lt}
 use Rattle.house.specs.Limits.{mostJobs, mostTime}
@@ -32,12 +32,12 @@ use Rattle.boxes.specs.Merge.{topClock, mergedTable, merged}
 use Rattle.boxes.specs.NewState.{followed, onNewState}
 use Rattle.boxes.specs.NewstateAck.{leading, onNewstateAck}
 use Rattle.boxes.specs.declared.BoxState.{BoxState}
+use Rattle.boxes.proofs.laws.Answers.{under-or}
 use Rattle.boxes.specs.declared.Vote.{Vote}
 use Rattle.boxes.specs.declared.Status.the-variants.{Follower, Leader, Recovering}
-use Rattle.stays_sound.proofs.laws.Laws.{both}
-use Rattle.stays_sound.specs.Rows.{Unproposed}
-use Rattle.stays_sound.specs.Obeys.{Neighbours, NewleaderOk, NewleaderAckOk, NewStateOk, NewstateAckOk}
-use Rattle.stays_sound.specs.Sound.{PaperOk, is-held}
+use Rattle.records.proofs.laws.Rows.{Unproposed}
+use Rattle.records.proofs.laws.Obeys.{Neighbours, NewleaderOk, NewleaderAckOk, NewStateOk, NewstateAckOk}
+use Rattle.boxes.proofs.laws.Sound.{PaperOk, is-held}
 use Rattle.stays_sound.proofs.laws.Fresh.{no-vote-ok}
 use Rattle.stays_sound.proofs.laws.Merge.{Papers, papers-with, clock-most, merged-ok}
 use Rattle.stays_sound.proofs.laws.Sends.{Every, a-step, every-guard, AllGood, good-one, good-each}
@@ -98,7 +98,7 @@ module _ {P : Plan} {x : BoxState} (F : Fine P x) where
 
   pub newleader-keeps : (from : BoxNo) (b : Ballot) → NewleaderOk P from (x .core .own) b → Every (Keeps P x) (onNewleader P x from b)
   unfolding onNewleader voteFor joined
-  newleader-keeps from b O = every-guard _ _ _ (λ h. a-step (go h))
+  newleader-keeps from b O = simp under-or (every-guard _ _ _ (λ h. a-step (go h)))
     where
       paper : Ballotpaper
       paper = record { ballot = b; cballot = x .core .cballot; clock = clockStamp P x; table = x .core .table }
@@ -185,7 +185,8 @@ module _ {P : Plan} {x : BoxState} (F : Fine P x) where
 
   pub newleader-ack-keeps : (from : BoxNo) (y : Ballotpaper) → NewleaderAckOk P from (x .core .own) y → length (y .table) ≡ mostJobs → Every (Keeps P x) (onNewleaderAck P x from y)
   unfolding onNewleaderAck whenVoted
-  newleader-ack-keeps from y O n = every-guard _ _ _ (λ h. every-guard _ _ _ (λ k. every-guard _ _ _ (λ q. go (ballotOrder .eq-says (y .ballot) (x .core .ballot) k))))
+  newleader-ack-keeps from y O n =
+      simp under-or (every-guard _ _ _ (λ h. every-guard _ _ _ (λ k. every-guard _ _ _ (λ q. go (ballotOrder .eq-says (y .ballot) (x .core .ballot) k)))))
     where
       v : Vote
       v = voteOf from y
@@ -216,7 +217,8 @@ module _ {P : Plan} {x : BoxState} (F : Fine P x) where
 
   pub new-state-keeps : (from : BoxNo) (y : NewState) → NewStateOk P from (x .core .own) y → length (y .table) ≡ mostJobs → Every (Keeps P x) (onNewState x from y)
   unfolding onNewState followed
-  new-state-keeps from y O n = every-guard _ _ _ (λ h. every-guard _ _ _ (λ k. a-step (go (ballotOrder .eq-says (y .ballot) (x .core .ballot) k))))
+  new-state-keeps from y O n =
+      simp under-or (every-guard _ _ _ (λ h. every-guard _ _ _ (λ k. a-step (go (ballotOrder .eq-says (y .ballot) (x .core .ballot) k)))))
     where
       go : y .ballot ≡ x .core .ballot → Keeps P x (followed x y) (newstate-ack (ownOf x) from (y .ballot) ∷ [])
       go e =
@@ -229,7 +231,7 @@ module _ {P : Plan} {x : BoxState} (F : Fine P x) where
 
   pub newstate-ack-keeps : (from : BoxNo) (b : Ballot) → NewstateAckOk P from (x .core .own) b → Every (Keeps P x) (onNewstateAck P x b)
   unfolding onNewstateAck leading
-  newstate-ack-keeps from b O = every-guard _ _ _ (λ h. every-guard _ _ _ (λ k. a-step (go (both k))))
+  newstate-ack-keeps from b O = simp under-or (every-guard _ _ _ (λ h. every-guard _ _ _ (λ k. a-step (go (both k)))))
     where
       go : (sameBallot b (x .core .ballot) ≡ true) × (sameBallot b (x .core .cballot) ≡ true) → Keeps P x (handOut P (leading x) .box) (handOut P (leading x) .sent)
       go k =

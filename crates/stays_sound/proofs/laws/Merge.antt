@@ -9,10 +9,10 @@ use native.Mathlib.Omega.{arith}
 use lib.ListN.{length, set, length-set}
 use lib.Dec.{ltb}
 use borrow.Author.Tests.{eqb-true}
-use Rattle.laws.proofs.laws.Choice.{pick-when, pick-both, never}
+use Rattle.laws.proofs.laws.Choice.{pick-when, pick-both, never, both}
 use Rattle.laws.proofs.laws.Fold.{upto-keeps}
 use Rattle.laws.specs.Place.{In}
-use Rattle.laws.proofs.laws.Place.{in-one, in-head, in-tail}
+use Rattle.laws.proofs.laws.Place.{in-one, in-head, in-tail, at-each}
 use Rattle.house.specs.Limits.{mostJobs, mostTime}
 use Rattle.house.specs.Pairs.{noRow, sameBallot}
 use Rattle.house.specs.declared.Ballot.{Ballot}
@@ -23,14 +23,12 @@ use Rattle.house.specs.Plan.{homeOf, planSound}
 use Rattle.house.proofs.laws.Says.{plan-says}
 use Rattle.house.specs.declared.Plan.{Plan}
 use Rattle.records.specs.Rec.{noRows}
+use Rattle.records.proofs.laws.Rows.{RowOk, at-start, TableOk, Unproposed, table-set, no-rows-ok}
 use Rattle.boxes.specs.Box.{raised}
 use Rattle.boxes.specs.NewleaderAck.{votesWith}
 use Rattle.boxes.specs.Merge.{topBallot, topClock, voteRow, committedAt, acceptedAt, firstRow, mergedRow, mergedTable}
 use Rattle.boxes.specs.declared.Vote.{Vote}
-use Rattle.stays_sound.proofs.laws.Laws.{both, at-each}
-use Rattle.stays_sound.specs.Rows.{RowOk, at-start, TableOk, Unproposed}
-use Rattle.stays_sound.proofs.laws.Rows.{table-set, no-rows-ok}
-use Rattle.stays_sound.specs.Sound.{PaperOk, VoteOk, is-held, not-held}
+use Rattle.boxes.proofs.laws.Sound.{PaperOk, VoteOk, is-held, not-held}
 use Rattle.stays_sound.proofs.laws.Fresh.{no-rows}
 
 pub raised-most : (c t : ℕ) → c ≤ mostTime → t ≤ mostTime → raised c t ≤ mostTime

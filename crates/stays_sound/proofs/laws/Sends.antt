@@ -23,6 +23,7 @@ use Rattle.records.specs.Format.{hasJob}
 use Rattle.records.specs.Rec.{Rec, carried, senderOf, addresseeOf}
 use Rattle.records.specs.Rules.{valid}
 use Rattle.records.specs.declared.Record.{Record}
+use Rattle.records.proofs.laws.Lengths.{Arrays}
 use Rattle.boxes.specs.Out.{Out, refused, does, guard, toEach}
 use Rattle.boxes.specs.declared.BoxState.{BoxState}
 use Rattle.boxes.specs.declared.Delivery.{Delivery}
@@ -111,6 +112,9 @@ pub record Sized (r : Record) : Type 0 where
   pub ballots : length (r .ballots) ≡ mostDistricts
   pub stamps : length (r .stamps) ≡ 2
   pub table : length (r .table) ≡ mostJobs
+
+pub arrays : {r : Record} → Sized r → Arrays r
+arrays Z = record { four = Z .ballots; two = Z .stamps; many = Z .table }
 
 -- valid, from this box, and the job of a kind that has one names the addressee's district
 pub record Good (P : Plan) (from : BoxNo) (m : Rec) : Type 0 where

@@ -1,41 +1,24 @@
 -- Laws of what specs/Size.antt defines.
-use Prim.Native.Nat.{ℕ, _+_, _*_, _≤_, min}
+use Prim.Native.Nat.{ℕ, _+_, _*_, _≤_}
 use mathlib.Core.Bool.{true}
 use mathlib.Core.List.{List, [], _∷_}
 use mathlib.Core.Path.{_≡_, refl, _∙_}
 use native.Mathlib.Nat.{mul-le-mul-right, suc-mul}
 use native.Mathlib.Omega.{arith}
-use lib.ListN.{length, take, length-append, length-take}
+use lib.ListN.{length, length-append}
 use Rattle.laws.specs.Choice.{pick}
 use Rattle.laws.specs.Place.{In}
 use Rattle.laws.proofs.laws.Place.{in-tail}
-use Rattle.laws.specs.Codec.{Codec, encRow, row-length}
-use Rattle.house.specs.Limits.{mostDistricts, mostJobs}
+use Rattle.house.specs.Limits.{mostJobs}
 use Rattle.house.specs.Plan.{sizeOf, planSound}
 use Rattle.house.proofs.laws.Says.{plan-says}
 use Rattle.house.specs.declared.Plan.{Plan}
 use Rattle.records.specs.Format.{entry, orPlan, ballotsIn, stampsIn, rowsIn}
-use Rattle.records.specs.Fields.{ballots, stamps, rows}
 use Rattle.records.specs.Rec.{Rec, multicast, accept, accept-ack, deliver, newleader, newleader-ack, new-state, newstate-ack, unknown, carried}
-use Rattle.records.specs.Bytes.{headBytes, ballotBytes, stampBytes, rowBytes, encode, encodeAll, stampsAt, rowsAt, lengthOf}
-use Rattle.records.specs.declared.Record.{Record}
-use Rattle.stays_sound.proofs.laws.Sends.{Sized}
+use Rattle.records.specs.Bytes.{encode, encodeAll, stampsAt, rowsAt, lengthOf}
+use Rattle.records.proofs.laws.Lengths.{encode-length}
+use Rattle.stays_sound.proofs.laws.Sends.{Sized, arrays}
 use Rattle.stays_sound.specs.Size.{longestOutput}
-
--- a section's elements are all there
-front : {A : Type 0} (C : Codec A) (n : ℕ) (l : List A) → n ≤ length l → length (encRow C (take n l)) ≡ n * C .w
-front C n l h = let e : min n (length l) ≡ n = omega arith in row-length C (take n l) ∙ rw (length-take, e)
-
--- a struct whose arrays have room for its kind's sections has its kind's length
-pub encode-length : (P : Plan) (r : Record) → ballotsIn P (r .kind) ≤ length (r .ballots) → stampsIn (r .kind) ≤ length (r .stamps) → rowsIn P (r .kind) ≤ length (r .table)
-    → length (encode P r) ≡ lengthOf P (r .kind)
-unfolding encode lengthOf rowsAt stampsAt headBytes ballotBytes stampBytes rowBytes ballots stamps rows
-encode-length P r b s t =
-    let k = r .kind in
-    let eb = front ballots (ballotsIn P k) (r .ballots) b in
-    let es = front stamps (stampsIn k) (r .stamps) s in
-    let et = front rows (rowsIn P k) (r .table) t in
-    simp length-append (omega arith)
 
 -- the bytes of a record by kind: sections of 4, 3, 5 and 11 bytes an element, each after its count
 abbrev pub sizeOfRec : Plan → Rec → ℕ
@@ -61,33 +44,9 @@ kind-size P (new-state from to y) = omega arith
 kind-size P (newstate-ack from to b) = refl
 kind-size P unknown = refl
 
--- its sections fit into the arrays
-record Room (P : Plan) (k : ℕ) : Type 0 where
-  ballots : ballotsIn P k ≤ mostDistricts
-  stamps : stampsIn k ≤ 2
-  rows : rowsIn P k ≤ mostJobs
-
-room : (P : Plan) (m : Rec) → P .districts ≤ mostDistricts → P .jobs ≤ mostJobs → Room P (carried m .kind)
-unfolding carried ballotsIn stampsIn rowsIn entry orPlan pick
-room P (multicast from to j) g n = omega arith
-room P (accept from to j y) g n = omega arith
-room P (accept-ack from to j bs) g n = omega arith
-room P (deliver from to j y) g n = omega arith
-room P (newleader from to b) g n = omega arith
-room P (newleader-ack from to y) g n = omega arith
-room P (new-state from to y) g n = omega arith
-room P (newstate-ack from to b) g n = omega arith
-room P unknown g n = omega arith
-
 -- every record that has its arrays' lengths, under a sound plan
-pub record-length : (P : Plan) (m : Rec) → planSound P ≡ true → Sized (carried m) → length (encode P (carried m)) ≡ lengthOf P (carried m .kind)
-record-length P m s Z =
-    let S = plan-says P s in
-    let r = room P m (S .districts-most) (S .jobs-most) in
-    encode-length P (carried m) (omega (arith, r .ballots, Z .ballots)) (omega (arith, r .stamps, Z .stamps)) (omega (arith, r .rows, Z .table))
-
 pub record-size : (P : Plan) (m : Rec) → planSound P ≡ true → Sized (carried m) → length (encode P (carried m)) ≡ sizeOfRec P m
-record-size P m s Z = record-length P m s Z ∙ kind-size P m
+record-size P m s Z = encode-length P (carried m) s (arrays Z) ∙ kind-size P m
 
 -- ---- lists of records
 

@@ -21,26 +21,26 @@ use Rattle.records.specs.Rec.{Rec, multicast, accept, accept-ack, deliver, newl
 use Rattle.records.specs.Rules.{valid}
 use Rattle.records.specs.Bytes.{encodeAll}
 use Rattle.records.specs.declared.Record.{Record}
+use Rattle.records.proofs.laws.Obeys.{Obeys, AcceptOk, AckOk, DeliverOk, NewleaderOk, NewleaderAckOk, NewStateOk, NewstateAckOk, valid-says}
+use Rattle.records.proofs.laws.Structs.{carried-meaning, struct-obeys}
 use Rattle.boxes.specs.Box.{ownOf}
 use Rattle.boxes.specs.Sound.{sound}
-use Rattle.boxes.specs.Out.{does, toEach}
+use Rattle.boxes.specs.Out.{does}
 use Rattle.boxes.specs.Post.{posts}
 use Rattle.boxes.specs.Retry.{retries, retry}
-use Rattle.boxes.specs.Stand.{nextBallot, stand}
+use Rattle.boxes.specs.Stand.{nextBallot, standing, stand}
 use Rattle.boxes.specs.Cut.{cut}
 use Rattle.boxes.specs.Step.{react, takes, retried, stood, cutOff}
 use Rattle.boxes.specs.declared.BoxState.{BoxState}
+use Rattle.boxes.proofs.laws.Answers.{under-or}
 use Rattle.boxes.specs.declared.Delivery.{Delivery}
-use Rattle.stays_sound.specs.Obeys.{Obeys, AcceptOk, AckOk, DeliverOk, NewleaderOk, NewleaderAckOk, NewStateOk, NewstateAckOk}
-use Rattle.stays_sound.proofs.laws.Obeys.{valid-says}
-use Rattle.stays_sound.proofs.laws.Sound.{sound-says, sound-is}
-use Rattle.stays_sound.specs.Sound.{Lengths}
+use Rattle.boxes.proofs.laws.Sound.{sound-says, sound-is}
+use Rattle.boxes.specs.Lengths.{Lengths}
 use Rattle.stays_sound.proofs.laws.Fresh.{cut-sound, cut-lengths}
-use Rattle.stays_sound.proofs.laws.Sends.{Every, no-step, a-step, every-guard, every-does, Sized, Good, AllGood, good-each}
+use Rattle.stays_sound.proofs.laws.Sends.{Every, no-step, a-step, every-guard, every-does, Sized, Good, AllGood, good-each, arrays}
 use Rattle.stays_sound.specs.Size.{longestOutput}
 use Rattle.stays_sound.proofs.laws.Changes.{Fine}
 use Rattle.stays_sound.proofs.laws.Goods.{named-job, good-multicast, good-newleader, Keeps, keeps-quiet, fits-each}
-use Rattle.stays_sound.proofs.laws.Structs.{carried-meaning, struct-obeys}
 use Rattle.stays_sound.proofs.laws.Jobs.{multicast-keeps, accept-keeps, accept-ack-keeps, deliver-keeps}
 use Rattle.stays_sound.proofs.laws.Leads.{newleader-keeps, newleader-ack-keeps, new-state-keeps, newstate-ack-keeps}
 
@@ -64,7 +64,8 @@ react-every unknown F O Z e = no-step
 module _ {P : Plan} {x : BoxState} (F : Fine P x) where
   pub retry-every : (j : ℕ) → Every (Keeps P x) (retry P x j)
   unfolding retry retries
-  retry-every j = every-guard _ _ _ (λ n. every-guard _ _ _ (λ o. a-step (record { fine = F; same = refl; good = goods n; fits = bytes (goods n) })))
+  retry-every j =
+      simp under-or (every-guard _ _ _ (λ n. every-guard _ _ _ (λ o. a-step (record { fine = F; same = refl; good = goods n; fits = bytes (goods n) }))))
     where
       box : isBox P (x .core .own) ≡ true → (isBox P (x .core .own) || isOffice P (x .core .own)) ≡ true
       box h = or-left (isBox P (x .core .own)) (isOffice P (x .core .own)) h
@@ -80,15 +81,12 @@ module _ {P : Plan} {x : BoxState} (F : Fine P x) where
 
   pub stand-every : Every (Keeps P x) (stand P x)
   unfolding stand nextBallot
-  stand-every = every-guard _ _ _ (λ h. a-step (record { fine = F; same = refl; good = goods h; fits = bytes (goods h) }))
+  stand-every = simp under-or (every-guard _ _ _ (λ h. a-step (record { fine = F; same = refl; good = goods h; fits = bytes (goods h) })))
     where
-      calls : List Rec
-      calls = toEach P (λ p. sameHome P p (ownOf x)) (λ to. newleader (ownOf x) to (nextBallot x))
-
-      bytes : AllGood P (x .core .own) calls → length (encodeAll P calls) ≤ longestOutput
+      bytes : AllGood P (x .core .own) (standing P x) → length (encodeAll P (standing P x)) ≤ longestOutput
       bytes g = fits-each (λ p. sameHome P p (ownOf x)) (λ to. newleader (ownOf x) to (nextBallot x)) (F .sound .plan) g (λ to. omega arith)
 
-      goods : ltb (x .core .ballot .number) mostNumber ≡ true → AllGood P (x .core .own) calls
+      goods : ltb (x .core .ballot .number) mostNumber ≡ true → AllGood P (x .core .own) (standing P x)
       goods h =
           let S = F .sound in
           let l = ltb-true (x .core .ballot .number) mostNumber h in
@@ -131,8 +129,8 @@ takes-every P x room r L Z =
   where
     go : Fine P x → valid P r ≡ true → r .to ≡ ownOf x → Every (Keeps P x) (react P x (meaning r))
     go F v e =
-        let c = carried-meaning P r Z v in
-        react-every (meaning r) F (struct-obeys P r (F .sound .plan) Z v) (subst Sized (sym c) Z) (ap (λ (q : Record). q .to) c ∙ e)
+        let c = carried-meaning P r (arrays Z) v in
+        react-every (meaning r) F (struct-obeys P r (F .sound .plan) (arrays Z) v) (subst Sized (sym c) Z) (ap (λ (q : Record). q .to) c ∙ e)
 
 pub retried-every : (P : Plan) (x : BoxState) (j room : ℕ) → Lengths x → Every (Keeps P x) (retried P x j room)
 unfolding retried

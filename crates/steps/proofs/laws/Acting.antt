@@ -4,10 +4,9 @@ use mathlib.Core.Bool.{Bool, true, false, not, _&&_}
 use mathlib.Core.Path.{_≡_, refl, _∙_}
 use native.Mathlib.Omega.{arith}
 use lib.ListN.{length}
-use lib.Dec.{leb, eqb}
-use borrow.Author.Tests.{leb-true, ltb-true, eq-eqb, le-leb}
+use lib.Dec.{eqb}
+use borrow.Author.Tests.{ltb-true, eq-eqb, le-leb}
 use Rattle.laws.proofs.laws.Choice.{never}
-use Rattle.laws.specs.Choice.{and-left, and-right}
 use Rattle.laws.proofs.laws.Fold.{some-is}
 use Rattle.house.specs.Limits.{leastTray}
 use Rattle.house.specs.Pairs.{stampLt, sameBallot}
@@ -19,22 +18,22 @@ use Rattle.house.specs.declared.BoxNo.{BoxNo}
 use Rattle.house.specs.declared.Stamp.{Stamp}
 use Rattle.records.specs.Answers.{notSound, smallTray, brokenRule, otherBox}
 use Rattle.records.specs.Bytes.{encodeAll}
-use Rattle.records.specs.Format.{known, mostKind}
+use Rattle.records.specs.Format.{mostKind}
 use Rattle.records.specs.Rec.{meaning}
-use Rattle.records.specs.Rules.{valid, spare, rules}
+use Rattle.records.specs.Rules.{valid}
 use Rattle.records.specs.declared.Answer.the-variants.{Done}
 use Rattle.records.specs.declared.Record.{Record}
+use Rattle.records.proofs.laws.Obeys.{Told, rules-say, valid-parts, valid-kind}
 use Rattle.boxes.specs.Box.{isRecovering, homeIn, ownOf, lastStamp, onList, listedAt}
 use Rattle.boxes.specs.Sound.{sound}
 use Rattle.boxes.specs.Out.{Out, guard, recordsOf, inOrder}
 use Rattle.boxes.specs.Step.{react, takes}
 use Rattle.boxes.specs.Deliver.{deliverAnswer}
 use Rattle.boxes.specs.declared.BoxState.{BoxState}
+use Rattle.boxes.proofs.laws.Sound.{SoundBox, sound-says}
+use Rattle.boxes.specs.Lengths.{Lengths}
 use Rattle.stays_sound.proofs.laws.Sends.{Every, no-step, a-step, Sized}
-use Rattle.stays_sound.specs.Sound.{SoundBox, Lengths}
-use Rattle.stays_sound.proofs.laws.Sound.{sound-says}
 use Rattle.stays_sound.proofs.laws.Listing.{list-room}
-use Rattle.stays_sound.proofs.laws.Structs.{struct-obeys}
 use Rattle.stays_sound.proofs.laws.Goods.{Keeps, fits-none}
 use Rattle.stays_sound.proofs.laws.Steps.{takes-every}
 use Rattle.steps.specs.Acting.{Acting}
@@ -60,20 +59,24 @@ takes-on P x room r s h v t =
 pub acting : (P : Plan) (x : BoxState) (room : ℕ) (r : Record)
     → Lengths x → Sized r → sound P x ≡ true → leastTray ≤ room → valid P r ≡ true → eqb (r .to .0) (ownOf x .0) ≡ true
     → Acting P x r room
-unfolding valid known
 acting P x room r L Z s h v t =
-    let b = sound-says P x s in
-    let k = and-left (leb 1 (r .kind) && leb (r .kind) mostKind) (spare P r && rules P (meaning r)) v in
     let f = every-fits (takes-every P x room r L Z) in
-    let e = takes-on P x room r s h v t in
-    let g : length (encodeAll P (recordsOf (react P x (meaning r)))) ≤ leastTray = rw e at f in
-    record {
-      box = b;
-      least = leb-true 1 (r .kind) (and-left (leb 1 (r .kind)) (leb (r .kind) mostKind) k);
-      most = leb-true (r .kind) mostKind (and-right (leb 1 (r .kind)) (leb (r .kind) mostKind) k);
-      obeys = struct-obeys P r (b .plan) Z v;
-      fits = omega arith;
-    }
+    let g : length (encodeAll P (recordsOf (react P x (meaning r)))) ≤ leastTray = rw (takes-on P x room r s h v t) at f in
+    record { is-sound = s; is-valid = v; fits = omega arith }
+
+module _ {P : Plan} {x : BoxState} {r : Record} {room : ℕ} (A : Acting P x r room) where
+  -- what the two tests say
+  pub box : SoundBox P x
+  box = sound-says P x (A .is-sound)
+
+  pub told : Told P (meaning r)
+  told = rules-say P (meaning r) (valid-parts P r (A .is-valid) .obeys)
+
+  pub least : 1 ≤ r .kind
+  least = valid-kind P r (A .is-valid) .0
+
+  pub most : r .kind ≤ mostKind
+  most = valid-kind P r (A .is-valid) .1
 
 -- a job of the plan is one of the table's
 pub job-low : (P : Plan) (j : ℕ) → planSound P ≡ true → isJob P j ≡ true → j < 64

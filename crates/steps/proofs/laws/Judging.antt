@@ -1,48 +1,37 @@
 -- Laws of what specs/Judging.antt defines.
-use Prim.Native.Nat.{ℕ, _+_, _-_, _≤_}
-use mathlib.Core.Bool.{Bool, true, false, _&&_}
+use Prim.Native.Nat.{ℕ, _≤_}
+use mathlib.Core.Bool.{Bool, true, false}
 use mathlib.Core.List.{List}
 use mathlib.Core.Path.{_≡_, refl, sym, ap, _∙_}
 use native.Mathlib.Omega.{arith}
-use lib.ListN.{length-append, length-replicate, replicate, drop, getD}
-use lib.Dec.{leb, eqb}
-use borrow.Author.Tests.{le-leb, leb-true}
-use Rattle.laws.specs.Choice.{and-left, and-right}
-use Rattle.laws.specs.Codec.{decRow, row-read-length}
-use Rattle.house.specs.Limits.{mostDistricts, mostJobs, leastTray}
-use Rattle.house.specs.Pairs.{noBallot, noStamp, noRow}
+use lib.Dec.{eqb}
+use borrow.Author.Tests.{le-leb}
+use Rattle.house.specs.Limits.{leastTray}
 use Rattle.house.specs.Plan.{planSound}
 use Rattle.house.specs.declared.Plan.{Plan}
 use Rattle.records.specs.Answers.{notSound, smallTray, unreadable, brokenRule, otherBox, answerOf, unless, orNo}
-use Rattle.records.specs.Bytes.{parse, shaped, stampsAt, rowsAt}
-use Rattle.records.specs.Fields.{ballots, stamps, rows}
-use Rattle.records.specs.Format.{known, mostKind, ballotsIn, stampsIn, rowsIn}
+use Rattle.records.specs.Bytes.{parse, shaped}
 use Rattle.records.specs.Outcome.{readNo, readAnswer}
 use Rattle.records.specs.Rec.{meaning}
-use Rattle.records.specs.Rules.{valid, spare, rules}
-use Rattle.records.proofs.laws.Table.{ballots-most, stamps-most, rows-most}
+use Rattle.records.specs.Rules.{valid}
 use Rattle.records.specs.declared.Answer.{Answer}
 use Rattle.records.specs.declared.Answer.the-variants.{Done, No}
 use Rattle.records.specs.declared.Record.{Record}
+use Rattle.records.proofs.laws.Lengths.{parse-arrays}
 use Rattle.boxes.specs.Box.{ownOf}
-use Rattle.boxes.specs.Sound.{sound, boxSound}
+use Rattle.boxes.specs.Sound.{sound}
 use Rattle.boxes.specs.Out.{Out, refused, guard, under}
 use Rattle.boxes.specs.Step.{react, takes, receives}
 use Rattle.boxes.specs.declared.BoxState.{BoxState}
+use Rattle.boxes.specs.Lengths.{Lengths}
+use Rattle.boxes.proofs.laws.Sound.{sound-plan}
 use Rattle.stays_sound.proofs.laws.Sends.{Every, every-guard, Sized}
 use Rattle.stays_sound.proofs.laws.Goods.{Keeps}
 use Rattle.stays_sound.proofs.laws.Steps.{takes-every}
-use Rattle.stays_sound.specs.Sound.{Lengths}
 use Rattle.steps.proofs.laws.Acting.{acting, guard-on}
 use Rattle.steps.specs.Judged.{judged}
 use Rattle.steps.proofs.laws.Judged.{judged-no}
 use Rattle.steps.specs.Judging.{Judging}
-
--- ---- laws
-
-pub sound-plan : (P : Plan) (x : BoxState) → sound P x ≡ true → planSound P ≡ true
-unfolding sound
-sound-plan P x h = and-left (planSound P) (boxSound P x) h
 
 -- a guard that refuses
 pub guard-off : {t : Bool} (n : ℕ) (o : Out) → t ≡ false → guard t n o ≡ refused n
@@ -57,35 +46,13 @@ read-guards false b o = refl
 
 -- the arrays of a struct that was read have their lengths
 parse-sized : (P : Plan) (s : List ℕ) → planSound P ≡ true → Sized (parse P s)
-unfolding parse
-parse-sized P s h =
-    let b = ballots-most P (getD s 1 0) h in let t = stamps-most (getD s 1 0) in let r = rows-most P (getD s 1 0) h in
-    let k = getD s 1 0 in
-    record {
-      ballots =
-          length-append (decRow ballots (ballotsIn P k) (drop 6 s)) (replicate (mostDistricts - ballotsIn P k) noBallot)
-          ∙ rw (row-read-length ballots (ballotsIn P k) (drop 6 s), length-replicate (mostDistricts - ballotsIn P k) noBallot) (omega arith);
-      stamps =
-          length-append (decRow stamps (stampsIn k) (drop (stampsAt P k + 1) s)) (replicate (2 - stampsIn k) noStamp)
-          ∙ rw (row-read-length stamps (stampsIn k) (drop (stampsAt P k + 1) s), length-replicate (2 - stampsIn k) noStamp) (omega arith);
-      table =
-          length-append (decRow rows (rowsIn P k) (drop (rowsAt P k + 1) s)) (replicate (mostJobs - rowsIn P k) noRow)
-          ∙ rw (row-read-length rows (rowsIn P k) (drop (rowsAt P k + 1) s), length-replicate (mostJobs - rowsIn P k) noRow) (omega arith);
-    }
+parse-sized P s h = let A = parse-arrays P s h in record { ballots = A .four; stamps = A .two; table = A .many }
 
 -- whatever comes of bytes, the box stays sound and its records fit
 pub receives-every : (P : Plan) (x : BoxState) (room : ℕ) (s : List ℕ) → Lengths x → Every (Keeps P x) (receives P x room s)
 unfolding receives
 receives-every P x room s L =
     every-guard _ _ _ (λ h. every-guard _ _ _ (λ t. every-guard _ _ _ (λ v. takes-every P x room (parse P s) L (parse-sized P s (sound-plan P x h)))))
-
-pub kind-fits : (P : Plan) (r : Record) → valid P r ≡ true → (1 ≤ r .kind) × (r .kind ≤ mostKind)
-unfolding valid known
-kind-fits P r v =
-    let k = and-left (leb 1 (r .kind) && leb (r .kind) mostKind) (spare P r && rules P (meaning r)) v in (
-      leb-true 1 (r .kind) (and-left (leb 1 (r .kind)) (leb (r .kind) mostKind) k),
-      leb-true (r .kind) mostKind (and-right (leb 1 (r .kind)) (leb (r .kind) mostKind) k),
-    )
 
 no-done : {n : ℕ} {A : Type 0} → _≡_ {A = Answer} (No n) Done → A
 no-done e = let z : _≡_ {A = ℕ} 0 1 = cc in absurd (omega arith)

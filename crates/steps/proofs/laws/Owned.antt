@@ -5,7 +5,7 @@ use denote.Struct.Declared.{fields}
 use Rattle.house.specs.Limits.{mostJobs}
 use Rattle.boxes.proofs.BoxState.{the-type}
 use Rattle.boxes.specs.declared.BoxState.{BoxState}
-use Rattle.stays_sound.specs.Sound.{Lengths}
+use Rattle.boxes.specs.Lengths.{Lengths}
 use Rattle.boxes.proofs.laws.Long.{long-map}
 
 pub owned-lengths : (x : BoxState) (v : Valss (fields the-type)) → shadow (owns (fields the-type) (the-type .to x) v) → Lengths x

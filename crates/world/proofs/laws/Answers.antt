@@ -32,10 +32,11 @@ use Rattle.boxes.specs.NewleaderAck.{whenVoted, onNewleaderAck}
 use Rattle.boxes.specs.NewState.{onNewState}
 use Rattle.boxes.specs.NewstateAck.{onNewstateAck}
 use Rattle.boxes.specs.Step.{react, takes, retried, stood, cutOff}
+use Rattle.boxes.proofs.laws.Answers.{under-or}
 use Rattle.boxes.specs.declared.BoxState.{BoxState}
 use Rattle.boxes.specs.declared.Delivery.{Delivery}
 use Rattle.world.specs.World.{World, Order, post, stand, retry, cut, carry, boxAt, recordAt, new, exists, acts, given, run}
-use Rattle.stays_sound.specs.Obeys.{Obeys}
+use Rattle.records.proofs.laws.Obeys.{Obeys}
 use Rattle.stays_sound.proofs.laws.Sends.{Good}
 use Rattle.stays_sound.proofs.laws.Goods.{good-obeys, NamedTo, named-to}
 use Rattle.world.proofs.laws.Reached.{Reached, record-good, record-box, reached}
@@ -80,38 +81,42 @@ pub record From (a n : ℕ) : Type 0 where
 module _ (P : Plan) (x : BoxState) where
   late-multicast : (j : ℕ) → names P j (homeIn P x) ≡ true → Only (From 7) (onMulticast P x j)
   unfolding onMulticast
-  late-multicast j n = only-holds _ _ _ n (only-test _ _ _ (omega arith) (only-test _ _ _ (omega arith) only-does))
+  late-multicast j n = simp under-or (only-holds _ _ _ n (only-test _ _ _ (omega arith) (only-test _ _ _ (omega arith) only-does)))
 
   late-accept : (from : BoxNo) (j : ℕ) (y : Proposal) → names P j (homeIn P x) ≡ true → Only (From 7) (onAccept P x from j y)
   unfolding onAccept whenKept
-  late-accept from j y n = only-holds _ _ _ n (only-test _ _ _ (omega arith) (only-test _ _ _ (omega arith) (pick-both (Only (From 7)) _ only-does only-does)))
+  late-accept from j y n =
+      simp under-or (only-holds _ _ _ n (only-test _ _ _ (omega arith) (only-test _ _ _ (omega arith) (pick-both (Only (From 7)) _ only-does only-does))))
 
   late-accept-ack : (from : BoxNo) (j : ℕ) (bs : List Ballot) → names P j (homeIn P x) ≡ true → Only (From 7) (onAcceptAck P x from j bs)
   unfolding onAcceptAck whenMarked
   late-accept-ack from j bs n =
-      only-holds _ _ _ n
-      (only-test _ _ _ (omega arith) (only-test _ _ _ (omega arith) (only-test _ _ _ (omega arith) (pick-both (Only (From 7)) _ only-does only-does))))
+      simp under-or
+      (only-holds _ _ _ n
+      (only-test _ _ _ (omega arith) (only-test _ _ _ (omega arith) (only-test _ _ _ (omega arith) (pick-both (Only (From 7)) _ only-does only-does)))))
 
   late-deliver : (j : ℕ) (y : Handout) → names P j (homeIn P x) ≡ true → Only (From 7) (onDeliver P x j y)
   unfolding onDeliver
-  late-deliver j y n = only-holds _ _ _ n (only-test _ _ _ (omega arith) (only-test _ _ _ (omega arith) (only-test _ _ _ (omega arith) only-does)))
+  late-deliver j y n =
+      simp under-or (only-holds _ _ _ n (only-test _ _ _ (omega arith) (only-test _ _ _ (omega arith) (only-test _ _ _ (omega arith) only-does))))
 
   late-newleader : (from : BoxNo) (b : Ballot) → Only (From 7) (onNewleader P x from b)
   unfolding onNewleader
-  late-newleader from b = only-test _ _ _ (omega arith) only-does
+  late-newleader from b = simp under-or (only-test _ _ _ (omega arith) only-does)
 
   late-newleader-ack : (from : BoxNo) (y : Ballotpaper) → Only (From 7) (onNewleaderAck P x from y)
   unfolding onNewleaderAck whenVoted
   late-newleader-ack from y =
-      only-test _ _ _ (omega arith) (only-test _ _ _ (omega arith) (only-test _ _ _ (omega arith) (pick-both (Only (From 7)) _ only-does only-does)))
+      simp under-or
+      (only-test _ _ _ (omega arith) (only-test _ _ _ (omega arith) (only-test _ _ _ (omega arith) (pick-both (Only (From 7)) _ only-does only-does))))
 
   late-new-state : (from : BoxNo) (y : NewState) → Only (From 7) (onNewState x from y)
   unfolding onNewState
-  late-new-state from y = only-test _ _ _ (omega arith) (only-test _ _ _ (omega arith) only-does)
+  late-new-state from y = simp under-or (only-test _ _ _ (omega arith) (only-test _ _ _ (omega arith) only-does))
 
   late-newstate-ack : (b : Ballot) → Only (From 7) (onNewstateAck P x b)
   unfolding onNewstateAck
-  late-newstate-ack b = only-test _ _ _ (omega arith) (only-test _ _ _ (omega arith) only-does)
+  late-newstate-ack b = simp under-or (only-test _ _ _ (omega arith) (only-test _ _ _ (omega arith) only-does))
 
   -- the job of kinds 1 to 4 names this box's district, so 6 does not come; a record of no kind obeys no rules, so 3 does not
   react-late : (m : Rec) → Obeys P m → NamedTo P m → addresseeOf m ≡ ownOf x → Only (From 7) (react P x m)
@@ -139,12 +144,15 @@ module _ (P : Plan) (x : BoxState) where
   -- the orders without a record, given to a sound box
   stood-late : sound P x ≡ true → Only (From 6) (stood P x leastTray)
   unfolding stood Stand.stand
-  stood-late s = only-holds _ _ _ s (only-holds _ _ _ (le-leb leastTray leastTray (omega arith)) (only-test _ _ _ (omega arith) only-does))
+  stood-late s =
+      simp under-or (only-holds _ _ _ s (only-holds _ _ _ (le-leb leastTray leastTray (omega arith)) (only-test _ _ _ (omega arith) only-does)))
 
   retried-late : (j : ℕ) → sound P x ≡ true → Only (From 6) (retried P x j leastTray)
   unfolding retried Retry.retry
   retried-late j s =
-      only-holds _ _ _ s (only-holds _ _ _ (le-leb leastTray leastTray (omega arith)) (only-test _ _ _ (omega arith) (only-test _ _ _ (omega arith) only-does)))
+      simp under-or
+      (only-holds _ _ _ s
+      (only-holds _ _ _ (le-leb leastTray leastTray (omega arith)) (only-test _ _ _ (omega arith) (only-test _ _ _ (omega arith) only-does))))
 
   cut-late : sound P x ≡ true → Only (From 6) (cutOff P x)
   unfolding cutOff

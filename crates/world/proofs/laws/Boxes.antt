@@ -17,7 +17,7 @@ use Rattle.house.specs.declared.Plan.{Plan}
 use Rattle.records.specs.Rec.{Rec, multicast, accept, accept-ack, deliver, newleader, newleader-ack, new-state, newstate-ack, unknown, addresseeOf, carried}
 use Rattle.boxes.specs.Box.{fresh}
 use Rattle.world.specs.World.{freshBoxes}
-use Rattle.stays_sound.specs.Obeys.{Obeys}
+use Rattle.records.proofs.laws.Obeys.{Obeys}
 use Rattle.stays_sound.proofs.laws.Sends.{Good}
 use Rattle.stays_sound.proofs.laws.Goods.{good-obeys}
 

@@ -11,7 +11,7 @@ use lib.Dec.{ltb}
 use borrow.Author.Tests.{ltb-true}
 use Rattle.laws.specs.Choice.{and-left}
 use Rattle.laws.specs.Place.{In}
-use Rattle.laws.proofs.laws.Place.{in-nil, in-cases, at-getD}
+use Rattle.laws.proofs.laws.Place.{in-nil, in-cases, at-getD, at-each}
 use Rattle.house.specs.Limits.{leastTray}
 use Rattle.house.specs.Pairs.{boxNo}
 use Rattle.house.specs.declared.BoxNo.{BoxNo}
@@ -24,8 +24,7 @@ use Rattle.boxes.specs.Sound.{sound}
 use Rattle.boxes.specs.Out.{Out, refused, does}
 use Rattle.boxes.specs.declared.BoxState.{BoxState}
 use Rattle.world.specs.World.{World, Order, post, stand, retry, cut, carry, new, boxAt, recordAt, whose, exists, acts, given, finish, step, run}
-use Rattle.stays_sound.proofs.laws.Laws.{at-each}
-use Rattle.stays_sound.specs.Sound.{Lengths}
+use Rattle.boxes.specs.Lengths.{Lengths}
 use Rattle.stays_sound.proofs.laws.Fresh.{fresh-is-sound, fresh-lengths}
 use Rattle.stays_sound.proofs.laws.Sends.{Every, no-step, a-step, every-guard, Good}
 use Rattle.stays_sound.proofs.laws.Goods.{Keeps}

@@ -1,3 +1,4 @@
+-- `house::marks::only_boxes` meets its contract.
 use Rattle.house.specs.Marks.{onlyBoxes}
 use Rattle.house.specs.Plan.{boxesOf}
 use Rattle.laws.proofs.laws.Digits.{one-digit}

@@ -1,5 +1,5 @@
 -- `rehearsal::exists::known_sound` meets its contract.
-use Rattle.stays_sound.specs.Sound.{Lengths}
+use Rattle.boxes.specs.Lengths.{Lengths}
 use Rattle.steps.proofs.laws.Owned.{owned-lengths}
 use mathlib.Core.Path.{sym}
 use borrow.Author.Needs.{needs}

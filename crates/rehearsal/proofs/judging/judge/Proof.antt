@@ -1,6 +1,6 @@
 -- `rehearsal::judging::judge` meets its contract.
 use Rattle.rehearsal.proofs.laws.Steps.{judges-no, judges-as, plan-off}
-use Rattle.steps.proofs.laws.Judging.{sound-plan}
+use Rattle.boxes.proofs.laws.Sound.{sound-plan}
 use mathlib.Core.Path.{sym, _∙_}
 use borrow.Author.Needs.{needs}
 use Rattle.rehearsal.proofs.judging.judge.Statement.{statement}

@@ -3,7 +3,8 @@ use Rattle.rehearsal.proofs.laws.Steps.{judges-no, judges-go, none-such
 use Rattle.rehearsal.specs.Alone.{here}
 use Rattle.rehearsal.specs.Night.{exists}
 use Rattle.rehearsal.specs.declared.Order.the-variants.{Retry}
-use Rattle.steps.proofs.laws.Orders.{retry-is, retries-sent}
+use Rattle.boxes.proofs.laws.Answers.{retry-is}
+use Rattle.steps.proofs.laws.Orders.{retries-sent}
 use Rattle.records.specs.Answers.{notSound}
 use Rattle.house.specs.Plan.{isJob}
 use Rattle.house.proofs.laws.Says.{plan-says}

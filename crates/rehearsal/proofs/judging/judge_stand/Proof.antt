@@ -4,7 +4,8 @@ use Rattle.rehearsal.proofs.laws.Steps.{stand-keeps}
 use Rattle.rehearsal.specs.Alone.{here}
 use Rattle.rehearsal.specs.Night.{exists}
 use Rattle.rehearsal.specs.declared.Order.the-variants.{Stand}
-use Rattle.steps.proofs.laws.Orders.{stand-is, standing-sent}
+use Rattle.boxes.proofs.laws.Answers.{stand-is}
+use Rattle.steps.proofs.laws.Orders.{standing-sent}
 use Rattle.leaders.proofs.laws.Room.{stand-room}
 use Rattle.records.specs.Answers.{notSound}
 use Prim.Native.Nat.{ℕ}

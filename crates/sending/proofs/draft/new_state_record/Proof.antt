@@ -6,8 +6,9 @@ use Rattle.sending.proofs.draft.new_state_record.Tie as tie
 
 returns : tie.Need-returns
 unfolding carried
-returns c = rw (c .no-stamp .ensures, c .before .no-ballot .ensures, c .before .before .clock-stamp .ensures)
+returns c = rw (c .draft .ensures, c .before .no-stamp .ensures, c .before .before .clock-stamp .ensures)
 
 pub new-state-record-spec : {M : Type 1} → statement M
 new-state-record-spec =
-    tie.close (tie.spec (λ c κs. search needs) (λ c κs. search needs) (λ c κs. search needs) returns)
+    tie.close
+    (tie.spec (λ c κs. search needs) (λ c κs. search needs) (λ c κs. search needs) returns)

@@ -6,7 +6,9 @@ use Rattle.sending.proofs.draft.newstate_ack_record.Tie as tie
 
 returns : tie.Need-returns
 unfolding carried
-returns c = c .ballot-record .ensures
+returns c = rw (c .draft .ensures, c .before .no-stamp .ensures)
 
 pub newstate-ack-record-spec : {M : Type 1} → statement M
-newstate-ack-record-spec = tie.close (tie.spec (λ c κs. search needs) returns)
+newstate-ack-record-spec =
+    tie.close
+    (tie.spec (λ c κs. search needs) (λ c κs. search needs) returns)

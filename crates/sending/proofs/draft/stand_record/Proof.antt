@@ -7,7 +7,9 @@ use Rattle.sending.proofs.draft.stand_record.Tie as tie
 
 returns : tie.Need-returns
 unfolding carried nextBallot
-returns c = c .ballot-record .ensures
+returns c = rw (c .draft .ensures, c .before .no-stamp .ensures)
 
 pub stand-record-spec : {M : Type 1} → statement M
-stand-record-spec = tie.close (tie.spec (λ c. search needs) (λ c κs. search needs) returns)
+stand-record-spec =
+    tie.close
+    (tie.spec (λ c. search needs) (λ c κs. search needs) (λ c κs. search needs) returns)

@@ -1,7 +1,7 @@
 -- `steps::acting::act` meets its contract: each kind's step.
 use Rattle.steps.proofs.laws.Kinds.{react-1, react-2, react-3, react-4, react-5, react-6, react-7, react-8, above-four, last-kind}
 use Rattle.steps.proofs.laws.Judged.{judged-1, judged-2, judged-3, judged-4, judged-5, judged-6, judged-7, judged-8}
-use Rattle.steps.proofs.laws.Acting.{job-low, home-place, room-listed}
+use Rattle.steps.proofs.laws.Acting.{box, told, least, most, job-low, home-place, room-listed}
 use Rattle.sending.proofs.laws.Sends.{encode-none}
 use Rattle.boxes.proofs.laws.Answers.{deliver-is}
 use Rattle.records.specs.Rec.{ballotNo, stampNo}
@@ -17,18 +17,18 @@ do-multicast-requires c κs =
     let at-6 = c .before .before .before .before .before .before in
     let at-8 = at-6 .before .before in
     let s = at-8 in let a = s .args in let A = s .pre .0 in let e = c .before .match .keys1 in
-    let O = rw (says-multicast (a .r) e) at (A .obeys) in let j = job-low (a .plan) (a .r .job) (A .box .plan) (O .job) in
-    (A .box .plan, j, A .box .clock, rw (react-1 (a .plan) (a .x) (a .r) e) at (A .fits), rw (judged-1 (a .plan) (a .x) (a .r) e) at (s .pre .1))
+    let O = rw (says-multicast (a .r) e) at (told A) in let j = job-low (a .plan) (a .r .job) (box A .plan) (O .job) in
+    (box A .plan, j, box A .clock, rw (react-1 (a .plan) (a .x) (a .r) e) at (A .fits), rw (judged-1 (a .plan) (a .x) (a .r) e) at (s .pre .1))
 
 do-accept-requires : tie.Need-do-accept-requires
 do-accept-requires c κs =
     let at-6 = c .before .before .before .before .before .before in
     let at-8 = at-6 .before .before in
     let s = at-8 in let a = s .args in let A = s .pre .0 in let e = c .before .match .keys2 in
-    let O = rw (says-accept (a .r) e) at (A .obeys) in let j = job-low (a .plan) (a .r .job) (A .box .plan) (O .job) in (
-      A .box .plan,
+    let O = rw (says-accept (a .r) e) at (told A) in let j = job-low (a .plan) (a .r .job) (box A .plan) (O .job) in (
+      box A .plan,
       j,
-      home-place (a .plan) (a .r .from) (A .box .plan) (O .sender),
+      home-place (a .plan) (a .r .from) (box A .plan) (O .sender),
       rw (react-2 (a .plan) (a .x) (a .r) e) at (A .fits),
       rw (judged-2 (a .plan) (a .x) (a .r) e) at (s .pre .1),
     )
@@ -38,47 +38,47 @@ do-accept-ack-requires c κs =
     let at-6 = c .before .before .before .before .before .before in
     let at-8 = at-6 .before .before in
     let s = at-8 in let a = s .args in let A = s .pre .0 in let e = c .before .match .keys3 in
-    let O = rw (says-accept-ack (a .r) e) at (A .obeys) in let j = job-low (a .plan) (a .r .job) (A .box .plan) (O .job) in
-    (A .box .plan, j, rw (react-3 (a .plan) (a .x) (a .r) e) at (A .fits), rw (judged-3 (a .plan) (a .x) (a .r) e) at (s .pre .1))
+    let O = rw (says-accept-ack (a .r) e) at (told A) in let j = job-low (a .plan) (a .r .job) (box A .plan) (O .job) in
+    (box A .plan, j, rw (react-3 (a .plan) (a .x) (a .r) e) at (A .fits), rw (judged-3 (a .plan) (a .x) (a .r) e) at (s .pre .1))
 
 do-deliver-requires : tie.Need-do-deliver-requires
 do-deliver-requires c κs =
     let at-6 = c .before .before .before .before .before .before in
     let at-8 = at-6 .before .before in
     let s = at-8 in let a = s .args in let A = s .pre .0 in let e = c .before .match .keys4 in
-    let O = rw (says-deliver (a .r) e) at (A .obeys) in let j = job-low (a .plan) (a .r .job) (A .box .plan) (O .job) in
+    let O = rw (says-deliver (a .r) e) at (told A) in let j = job-low (a .plan) (a .r .job) (box A .plan) (O .job) in
     let d = rw (judged-4 (a .plan) (a .x) (a .r) e) at (s .pre .1) in
-    (j, room-listed (a .plan) (a .x) (a .r .job) _ _ (A .box) d, d)
+    (j, room-listed (a .plan) (a .x) (a .r .job) _ _ (box A) d, d)
 
 do-newleader-requires : tie.Need-do-newleader-requires
 do-newleader-requires c κs =
     let at-6 = c .before .before .before .before .before .before in
     let at-8 = at-6 .before .before in
     let s = at-8 in let a = s .args in let A = s .pre .0 in let e = c .before .match .keys5 in
-    (A .box .plan, rw (react-5 (a .plan) (a .x) (a .r) e) at (A .fits), rw (judged-5 (a .plan) (a .x) (a .r) e) at (s .pre .1))
+    (box A .plan, rw (react-5 (a .plan) (a .x) (a .r) e) at (A .fits), rw (judged-5 (a .plan) (a .x) (a .r) e) at (s .pre .1))
 
 do-newleader-ack-requires : tie.Need-do-newleader-ack-requires
 do-newleader-ack-requires c κs =
     let at-6 = c .before .before .before .before .before .before in
     let at-10 = at-6 .before .before .before .before in
     let s = at-10 in let a = s .args in let A = s .pre .0 in let e = c .before .before .before .match .keys6 in
-    (A .box .plan, rw (react-6 (a .plan) (a .x) (a .r) e) at (A .fits), rw (judged-6 (a .plan) (a .x) (a .r) e) at (s .pre .1))
+    (box A .plan, rw (react-6 (a .plan) (a .x) (a .r) e) at (A .fits), rw (judged-6 (a .plan) (a .x) (a .r) e) at (s .pre .1))
 
 do-new-state-requires : tie.Need-do-new-state-requires
 do-new-state-requires c κs =
     let at-6 = c .before .before .before .before .before .before in
     let at-9 = at-6 .before .before .before in
     let s = at-9 in let a = s .args in let A = s .pre .0 in let e = c .before .before .match .keys7 in
-    (A .box .plan, rw (react-7 (a .plan) (a .x) (a .r) e) at (A .fits), rw (judged-7 (a .plan) (a .x) (a .r) e) at (s .pre .1))
+    (box A .plan, rw (react-7 (a .plan) (a .x) (a .r) e) at (A .fits), rw (judged-7 (a .plan) (a .x) (a .r) e) at (s .pre .1))
 
 do-newstate-ack-requires : tie.Need-do-newstate-ack-requires
 do-newstate-ack-requires c κs =
     let at-6 = c .before .before .before .before .before .before in
     let at-8 = at-6 .before .before in
     let s = at-8 in let a = s .args in let A = s .pre .0 in let q = c .before .match .rest in
-    let f = above-four (a .r .kind) (A .least) (q .0 .0 .0 .0 .0 .0 .1) (q .0 .0 .0 .0 .0 .1) (q .0 .0 .0 .0 .1) (q .0 .0 .0 .1) in
-    let e = last-kind (a .r .kind) f (A .most) (q .0 .0 .1) (q .0 .1) (q .1) in
-    (A .box .plan, rw (react-8 (a .plan) (a .x) (a .r) e) at (A .fits), rw (judged-8 (a .plan) (a .x) (a .r) e) at (s .pre .1))
+    let f = above-four (a .r .kind) (least A) (q .0 .0 .0 .0 .0 .0 .1) (q .0 .0 .0 .0 .0 .1) (q .0 .0 .0 .0 .1) (q .0 .0 .0 .1) in
+    let e = last-kind (a .r .kind) f (most A) (q .0 .0 .1) (q .0 .1) (q .1) in
+    (box A .plan, rw (react-8 (a .plan) (a .x) (a .r) e) at (A .fits), rw (judged-8 (a .plan) (a .x) (a .r) e) at (s .pre .1))
 
 returns : tie.Need-returns
 returns c =
@@ -145,8 +145,8 @@ returns-8 c =
     let at-10 = at-4 .before .before .before .before .before .before in
     let at-11 = at-10 .before in
     let s = at-11 in let a = s .args in let A = s .pre .0 in let q = at-4 .match .rest in
-    let f = above-four (a .r .kind) (A .least) (q .0 .0 .0 .0 .0 .0 .1) (q .0 .0 .0 .0 .0 .1) (q .0 .0 .0 .0 .1) (q .0 .0 .0 .1) in
-    let k = last-kind (a .r .kind) f (A .most) (q .0 .0 .1) (q .0 .1) (q .1) in
+    let f = above-four (a .r .kind) (least A) (q .0 .0 .0 .0 .0 .0 .1) (q .0 .0 .0 .0 .0 .1) (q .0 .0 .0 .0 .1) (q .0 .0 .0 .1) in
+    let k = last-kind (a .r .kind) f (most A) (q .0 .0 .1) (q .0 .1) (q .1) in
     let e = react-8 (a .plan) (a .x) (a .r) k in let w = c .before .before .do-newstate-ack in (rw e (w .ensures .0), rw e (w .ensures .1))
 
 pub act-spec : {M : Type 1} → statement M

@@ -1,5 +1,5 @@
 -- `steps::judging::judge_bytes` meets its contract.
-use Rattle.steps.proofs.laws.Judging.{sound-plan}
+use Rattle.boxes.proofs.laws.Sound.{sound-plan}
 use Rattle.steps.proofs.judging.judge_bytes.Statement.{statement}
 use Rattle.steps.proofs.judging.judge_bytes.Tie as tie
 

@@ -1,6 +1,7 @@
 -- `steps::judging::judge_read` meets its contract.
 use Rattle.steps.proofs.laws.Owned.{owned-lengths}
-use Rattle.steps.proofs.laws.Judging.{kind-fits, judging-unread, judging-taken}
+use Rattle.steps.proofs.laws.Judging.{judging-unread, judging-taken}
+use Rattle.records.proofs.laws.Obeys.{valid-kind}
 use Rattle.house.specs.declared.Plan.{Plan}
 use Rattle.records.specs.Bytes.{parse}
 use Rattle.records.specs.Outcome.{ifDone, readAnswer, readRecord, RecordRead}
@@ -38,7 +39,7 @@ took P s o w e =
 judge-record-requires : tie.Need-judge-record-requires
 judge-record-requires c κs =
     let a = c .before .before in
-    kind-fits (a .args .plan) (a .args .r) (took (a .args .plan) (a .pre .1 .0) _ (a .pre .1 .1) (c .enum-told .given .1) .is-valid)
+    valid-kind (a .args .plan) (a .args .r) (took (a .args .plan) (a .pre .1 .0) _ (a .pre .1 .1) (c .enum-told .given .1) .is-valid)
 
 returns : tie.Need-returns
 returns c = λ s w.

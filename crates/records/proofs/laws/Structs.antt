@@ -7,11 +7,12 @@ use mathlib.Core.Path.{_≡_, refl, sym, ap, _∙_}
 use native.Mathlib.Omega.{arith}
 use lib.ListN.{length, getD, take, drop, replicate, length-drop, length-replicate, getD-replicate, take-append-drop}
 use lib.Seq.{ext-getD, getD-drop, take-suc}
-use lib.Dec.{leb, ltb, eqb}
-use borrow.Author.Tests.{eqb-true, leb-true}
+use lib.Dec.{ltb, eqb}
+use borrow.Author.Tests.{eqb-true}
 use Rattle.laws.specs.Choice.{pick}
 use Rattle.laws.proofs.laws.Choice.{or-other}
 use Rattle.laws.specs.Fold.{allBelow}
+use Rattle.laws.proofs.laws.Fold.{from-says}
 use Rattle.house.specs.Limits.{mostDistricts, mostJobs, noJob}
 use Rattle.house.specs.Pairs.{noStamp, noBallot, noRow, isNoStamp, isNoBallot}
 use Rattle.house.proofs.laws.Orders.{no-stamp-says, no-ballot-says}
@@ -20,25 +21,23 @@ use Rattle.house.specs.declared.Ballot.{Ballot}
 use Rattle.house.specs.declared.Row.{Row}
 use Rattle.house.specs.Plan.{planSound}
 use Rattle.house.specs.declared.Plan.{Plan}
-use Rattle.records.specs.Format.{known, entry, orPlan, ballotsIn, stampsIn, rowsIn, hasJob}
+use Rattle.records.specs.Format.{entry, orPlan, ballotsIn, stampsIn, rowsIn, hasJob}
 use Rattle.records.specs.Rec.{carried, meaning}
-use Rattle.records.specs.Rules.{startRow, isNoRow, spareBallots, spareStamps, spareRows, spare, rules, valid}
+use Rattle.records.specs.Rules.{startRow, isNoRow, spareBallots, spareStamps, spareRows, valid}
 use Rattle.records.specs.declared.Record.{Record}
-use Rattle.stays_sound.proofs.laws.Laws.{both, from-says}
-use Rattle.stays_sound.proofs.laws.Rows.{start-says}
-use Rattle.stays_sound.specs.Obeys.{Obeys}
-use Rattle.stays_sound.proofs.laws.Obeys.{Spare, spare-says, valid-says}
-use Rattle.stays_sound.proofs.laws.Sends.{Sized}
+use Rattle.records.proofs.laws.Rows.{start-says}
+use Rattle.records.proofs.laws.Obeys.{Obeys, Spare, valid-parts, valid-kind, valid-says}
+use Rattle.records.proofs.laws.Lengths.{Arrays}
 
 -- ---- a list with nothing behind its front
 
 -- k elements, none from place n on
-record Front {A : Type 0} (d : A) (l : List A) (n k : ℕ) : Type 0 where
-  size : length l ≡ k
-  none : (i : ℕ) → n ≤ i → i < k → getD l i d ≡ d
+pub record Front {A : Type 0} (d : A) (l : List A) (n k : ℕ) : Type 0 where
+  pub size : length l ≡ k
+  pub none : (i : ℕ) → n ≤ i → i < k → getD l i d ≡ d
 
 module _ {A : Type 0} {d : A} {l : List A} where
-  front-split : {n k : ℕ} → Front d l n k → n ≤ k → l ≡ take n l ++ replicate (k - n) d
+  pub front-split : {n k : ℕ} → Front d l n k → n ≤ k → l ≡ take n l ++ replicate (k - n) d
   front-split {n} {k} F h = sym (take-append-drop n l) ∙ ap (λ (q : List A). take n l ++ q) rest
     where
       rest : drop n l ≡ replicate (k - n) d
@@ -65,18 +64,18 @@ spare-front d isNo says l n k e h =
 -- ---- a struct
 
 -- what stands behind the sections of a struct of kind k
-record Behind (P : Plan) (r : Record) (k : ℕ) : Type 0 where
-  ballots : Front noBallot (r .ballots) (ballotsIn P k) mostDistricts
-  stamps : Front noStamp (r .stamps) (stampsIn k) 2
-  rows : Front noRow (r .table) (rowsIn P k) mostJobs
+pub record Behind (P : Plan) (r : Record) (k : ℕ) : Type 0 where
+  pub ballots : Front noBallot (r .ballots) (ballotsIn P k) mostDistricts
+  pub stamps : Front noStamp (r .stamps) (stampsIn k) 2
+  pub rows : Front noRow (r .table) (rowsIn P k) mostJobs
 
-behind : (P : Plan) (r : Record) → Sized r → Spare P r → Behind P r (r .kind)
+pub behind : (P : Plan) (r : Record) → Arrays r → Spare P r → Behind P r (r .kind)
 unfolding spareBallots spareStamps spareRows isNoRow
 behind P r Z S =
     record {
-      ballots = spare-front noBallot isNoBallot no-ballot-says (r .ballots) (ballotsIn P (r .kind)) mostDistricts (Z .ballots) (S .ballots);
-      stamps = spare-front noStamp isNoStamp no-stamp-says (r .stamps) (stampsIn (r .kind)) 2 (Z .stamps) (S .stamps);
-      rows = spare-front noRow startRow start-says (r .table) (rowsIn P (r .kind)) mostJobs (Z .table) (S .rows);
+      ballots = spare-front noBallot isNoBallot no-ballot-says (r .ballots) (ballotsIn P (r .kind)) mostDistricts (Z .four) (S .ballots);
+      stamps = spare-front noStamp isNoStamp no-stamp-says (r .stamps) (stampsIn (r .kind)) 2 (Z .two) (S .stamps);
+      rows = spare-front noRow startRow start-says (r .table) (rowsIn P (r .kind)) mostJobs (Z .many) (S .rows);
     }
 
 no-job : (r : Record) → hasJob (r .kind) ≡ false → (hasJob (r .kind) || eqb (r .job) noJob) ≡ true → r .job ≡ noJob
@@ -110,14 +109,16 @@ same-struct P r (suc (suc (suc (suc (suc (suc (suc (suc zero)))))))) e S B l h =
 same-struct P r (suc (suc (suc (suc (suc (suc (suc (suc (suc k))))))))) e S B l h = absurd (omega arith)
 
 -- a valid struct is the struct of what it says
-pub carried-meaning : (P : Plan) (r : Record) → Sized r → valid P r ≡ true → carried (meaning r) ≡ r
-unfolding valid known
+pub carried-meaning : (P : Plan) (r : Record) → Arrays r → valid P r ≡ true → carried (meaning r) ≡ r
 carried-meaning P r Z h =
-    let a = both {a = known (r .kind)} h in
-    let k = both {a = leb 1 (r .kind)} {b = leb (r .kind) 8} (a .0) in
-    let S = spare-says P r (both {a = spare P r} {b = rules P (meaning r)} (a .1) .0) in
-    same-struct P r (r .kind) refl S (behind P r Z S) (leb-true 1 (r .kind) (k .0)) (leb-true (r .kind) 8 (k .1))
+    let k = valid-kind P r h in
+    let S = valid-parts P r h .behind in
+    same-struct P r (r .kind) refl S (behind P r Z S) (k .0) (k .1)
+
+-- two valid structs that say the same are the same
+pub one-carrier : (P : Plan) (q r : Record) → Arrays q → Arrays r → valid P q ≡ true → valid P r ≡ true → meaning q ≡ meaning r → q ≡ r
+one-carrier P q r A B v w e = sym (carried-meaning P q A v) ∙ ap carried e ∙ carried-meaning P r B w
 
 -- what a valid struct says obeys the rules
-pub struct-obeys : (P : Plan) (r : Record) → planSound P ≡ true → Sized r → valid P r ≡ true → Obeys P (meaning r)
+pub struct-obeys : (P : Plan) (r : Record) → planSound P ≡ true → Arrays r → valid P r ≡ true → Obeys P (meaning r)
 struct-obeys P r s Z h = valid-says P (meaning r) s (rw (carried-meaning P r Z h) h)

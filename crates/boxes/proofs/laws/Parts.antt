@@ -1,31 +1,70 @@
--- Laws of what specs/Parts.antt defines.
-use Prim.Native.Nat.{ℕ, _^_}
-use mathlib.Core.Bool.{true, false, not, _&&_, _||_}
+-- A sound box part by part: facts in document 01's words over just the fields that each is about, and the tests both ways.
+use Prim.Native.Nat.{ℕ, _^_, _≤_, _<_}
+use mathlib.Core.Bool.{Bool, true, false, not, _&&_, _||_}
+use mathlib.Core.List.{List}
 use mathlib.Core.Logic.{_⊎_, inl, inr}
 use mathlib.Core.Path.{_≡_}
 use lib.ListN.{getD}
 use lib.Dec.{ltb, eqb}
 use borrow.Author.Tests.{eqb-true, eq-eqb, ltb-true, lt-ltb, not-true, not-false}
 use Rattle.laws.specs.Choice.{and-both, not-off}
-use Rattle.laws.proofs.laws.Choice.{or-right, or-cases, or-other, not-of}
+use Rattle.laws.proofs.laws.Choice.{or-right, or-cases, or-other, not-of, both, or-if}
 use Rattle.laws.specs.Fold.{allBelow}
-use Rattle.laws.proofs.laws.Fold.{all-says, all-is}
+use Rattle.laws.proofs.laws.Fold.{all-says, all-is, from-says, from-is}
 use Rattle.house.specs.Limits.{mostDistricts, mostJobs}
-use Rattle.house.specs.Pairs.{district, ballotLt, sameBallot, isNoStamp, isNoBallot, stampOf, ballotOf}
-use Rattle.house.proofs.laws.Orders.{ballotOrder, no-stamp-says, no-ballot-says}
+use Rattle.house.specs.Pairs.{district, noStamp, noBallot, ballotLt, stampOf, ballotOf, sameBallot, isNoStamp, isNoBallot}
 use Rattle.house.specs.declared.Stamp.{Stamp}
 use Rattle.house.specs.declared.Ballot.{Ballot}
+use Rattle.house.specs.declared.BoxNo.{BoxNo}
 use Rattle.house.specs.declared.District.{District}
-use Rattle.house.specs.Plan.{boxesOf, isJob, names, ballotIn}
+use Rattle.house.specs.Plan.{boxesOf, homeOf, names, ballotIn, noneOrIn, isJob}
 use Rattle.house.specs.declared.Plan.{Plan}
 use Rattle.house.specs.Marks.{noMarks, marksIn}
-use Rattle.boxes.specs.Box.{isLeader, isRecovering, ownOf, sentAt, keptBallot, keptStamp, marksAt}
+use Rattle.house.proofs.laws.Orders.{ballotOrder, no-stamp-says, no-ballot-says, no-stamp-is, no-ballot-is}
+use Rattle.boxes.specs.Box.{isLeader, isRecovering, keptAt, ownOf, sentAt, keptBallot, keptStamp, marksAt}
+use Rattle.boxes.specs.declared.Status.{Status}
 use Rattle.boxes.specs.Sound.{ballotsSound, sentSound, keptSound, jobKeptSound, allKeptSound, marksSound, allMarksSound}
 use Rattle.boxes.specs.declared.BoxState.{BoxState}
-use Rattle.stays_sound.proofs.laws.Laws.{both, or-if, from-says, from-is}
-use Rattle.stays_sound.proofs.laws.Rows.{no-stamp-is}
-use Rattle.stays_sound.proofs.laws.Obeys.{no-ballot-is}
-use Rattle.stays_sound.specs.Parts.{BallotsOk, SentOk, KeptOk, not-kept, is-kept, KeptsOk, MarkOk, MarksOk}
+
+-- ---- ballots
+
+pub record BallotsOk (P : Plan) (own : BoxNo) (s : Status) (b cb : Ballot) : Type 0 where
+  -- cballot at most ballot
+  pub at-most : ballotLt b cb ≡ false
+  -- and equal unless recovering
+  pub equal : isRecovering s ≡ false → cb ≡ b
+  -- each none or of the own district
+  pub ballot-home : noneOrIn P (homeOf P own) b ≡ true
+  pub cballot-home : noneOrIn P (homeOf P own) cb ≡ true
+  -- a leader's cballot is real and its own
+  pub leader : isLeader s ≡ true → ballotOf own cb ≡ true
+
+-- ---- sent flags
+
+-- a number that is no job has no flag
+pub record SentOk (P : Plan) (l : List Bool) : Type 0 where
+  pub behind : (j : ℕ) → P .jobs ≤ j → j < mostJobs → getD l j false ≡ false
+
+-- ---- kept ACCEPTs
+
+-- none, or for a named district, by a box and with a stamp of that district
+pub data KeptOk (P : Plan) (j : ℕ) (d : District) (b : Ballot) (s : Stamp) : Type 0 where
+  not-kept : b ≡ noBallot → s ≡ noStamp → KeptOk P j d b s
+  is-kept : names P j d ≡ true → ballotIn P d b ≡ true → stampOf d s ≡ true → KeptOk P j d b s
+
+-- one of 256 pairs
+pub record KeptsOk (P : Plan) (bs : List Ballot) (ss : List Stamp) : Type 0 where
+  pub pair : (j d : ℕ) → j < mostJobs → d < mostDistricts → KeptOk P j (district d) (getD bs (keptAt j (district d)) noBallot) (getD ss (keptAt j (district d)) noStamp)
+
+-- ---- marks
+
+-- marks only of boxes in named districts
+pub record MarkOk (P : Plan) (j : ℕ) (m : ℕ) : Type 0 where
+  pub low : m < 2 ^ boxesOf P
+  pub named : (d : ℕ) → d < P .districts → names P j (district d) ≡ false → marksIn P m (district d) ≡ 0
+
+pub record MarksOk (P : Plan) (l : List ℕ) : Type 0 where
+  pub job : (j : ℕ) → j < mostJobs → MarkOk P j (getD l j noMarks)
 
 pub ballots-say : (P : Plan) (x : BoxState) → ballotsSound P x ≡ true → BallotsOk P (x .core .own) (x .core .status) (x .core .ballot) (x .core .cballot)
 unfolding ballotsSound
