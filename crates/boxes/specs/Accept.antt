@@ -5,7 +5,7 @@ use mathlib.Core.List.{List, [], _∷_}
 use lib.Dec.{eqb}
 use Rattle.laws.specs.Choice.{pick}
 use Rattle.laws.specs.Fold.{upto, allBelow}
-use Rattle.house.specs.Pairs.{district, stamp, noStamp, noBallot, ballotLt, sameStamp, sameBallot, isNoBallot, laterStamp}
+use Rattle.house.specs.Pairs.{district, noStamp, noBallot, ballotLt, sameStamp, sameBallot, isNoBallot, laterStamp}
 use Rattle.house.specs.declared.Stamp.{Stamp}
 use Rattle.house.specs.declared.Ballot.{Ballot}
 use Rattle.house.specs.declared.BoxNo.{BoxNo}

@@ -87,5 +87,8 @@ examples =
     -- 13 largest of (1,0), (3,1), (2,2): (3,1)
     ∷ sameStamp (latestStamp (stamp 1 0 ∷ stamp 3 1 ∷ stamp 2 2 ∷ [])) (stamp 3 1)
     -- 14 NEWLEADER (1,0) from 0 to 1: 04 05 00 01 FF 01 00 01 00 00 00
-    ∷ sameBytes (encode night (carried (newleader (boxNo 0) (boxNo 1) (ballot 1 0)))) (0x04 ∷ 0x05 ∷ 0x00 ∷ 0x01 ∷ 0xFF ∷ 0x01 ∷ 0x00 ∷ 0x01 ∷ 0x00 ∷ 0x00 ∷ 0x00 ∷ [])
+    ∷
+    sameBytes
+    (encode night (carried (newleader (boxNo 0) (boxNo 1) (ballot 1 0))))
+    (0x04 ∷ 0x05 ∷ 0x00 ∷ 0x01 ∷ 0xFF ∷ 0x01 ∷ 0x00 ∷ 0x01 ∷ 0x00 ∷ 0x00 ∷ 0x00 ∷ [])
     ∷ []

@@ -53,4 +53,6 @@ mergedTable l n = upto (λ t j. set t j (mergedRow l j)) noRows n
 -- the table merged, clock the larger, sent flags cleared (H), cballot set, vote dropped (lines 44-55)
 unfoldable pub merged : Plan → BoxState → List Vote → BoxState
 merged P x l =
-    putVote (putMode (putSent (putTable x (topClock l) (mergedTable l (P .jobs))) (replicate mostJobs false)) Recovering (x .core .ballot) (x .core .ballot)) noVote
+    putVote
+    (putMode (putSent (putTable x (topClock l) (mergedTable l (P .jobs))) (replicate mostJobs false)) Recovering (x .core .ballot) (x .core .ballot))
+    noVote

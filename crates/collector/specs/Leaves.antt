@@ -56,10 +56,14 @@ abbrev pub Leaves : Plan → BoxState → Outcome → List ℕ → Type 0
 Leaves P x r after = Stays P x (r .state) × Sent P (x .core .own) (r .records) (r .used) after
 
 pub record Face (P : Plan) : Type 0 where
-  pub receive : (x : BoxState) → sound P x ≡ true → Lengths x → (bytes before : List ℕ) (r : Outcome) (after : List ℕ) → BytesReceived P x bytes before r after → Leaves P x r after
-  pub retry : (x : BoxState) → sound P x ≡ true → Lengths x → (j : ℕ) (before : List ℕ) (r : Outcome) (after : List ℕ) → JobRetried P x j before r after → Leaves P x r after
-  pub stand : (x : BoxState) → sound P x ≡ true → Lengths x → (before : List ℕ) (r : Outcome) (after : List ℕ) → BoxStood P x before r after → Leaves P x r after
+  pub receive : (x : BoxState) → sound P x ≡ true → Lengths x → (bytes before : List ℕ) (r : Outcome) (after : List ℕ) → BytesReceived P x bytes before r after
+      → Leaves P x r after
+  pub retry : (x : BoxState) → sound P x ≡ true → Lengths x → (j : ℕ) (before : List ℕ) (r : Outcome) (after : List ℕ) → JobRetried P x j before r after
+      → Leaves P x r after
+  pub stand : (x : BoxState) → sound P x ≡ true → Lengths x → (before : List ℕ) (r : Outcome) (after : List ℕ) → BoxStood P x before r after
+      → Leaves P x r after
   pub cut : (x : BoxState) → sound P x ≡ true → Lengths x → (r : Outcome) → BoxCut P x r → Stays P x (r .state)
-  pub post : planSound P ≡ true → (j : ℕ) (before : List ℕ) (p : Posted) (after : List ℕ) → JobPosted P j before p after → Sent P (officeOf P) (p .records) (p .used) after
+  pub post : planSound P ≡ true → (j : ℕ) (before : List ℕ) (p : Posted) (after : List ℕ) → JobPosted P j before p after
+      → Sent P (officeOf P) (p .records) (p .used) after
   -- and there is a box to begin with
   pub fresh : planSound P ≡ true → (p : ℕ) → p < boxesOf P → (x : BoxState) → BoxFresh (boxNo p) x → (sound P x ≡ true) × Lengths x

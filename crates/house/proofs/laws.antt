@@ -1,5 +1,4 @@
 -- The laws of house.
 pub mod Orders
-pub mod Plan
 pub mod Says
 pub mod Quorums

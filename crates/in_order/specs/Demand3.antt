@@ -51,7 +51,8 @@ ListDelivers P = (os : List Order) (o : Order) (y : BoxState) (l : List Rec) (d 
 -- (3) when a leader p hands out job m with stamp s, to whichever box first, then every job k that names p's district and that ever gets a
 -- final stamp t below s has been handed out in the district before, with that stamp: to all its boxes, by the same leader, in the same ballot
 abbrev pub HandsInOrder : Plan → Type 0
-HandsInOrder P = (os later : List Order) (i m k : ℕ) (p : BoxNo) (b : Ballot) (s t : Stamp) → HandsOut (after P os .post) i p m b s → names P k (homeOf P p) ≡ true
+HandsInOrder P =
+    (os later : List Order) (i m k : ℕ) (p : BoxNo) (b : Ballot) (s t : Stamp) → HandsOut (after P os .post) i p m b s → names P k (homeOf P p) ≡ true
     → FinalStamp P (os ++ later) k t → stampLt t s ≡ true → HandedBefore P (after P os .post) i p k b t
 
 pub record Demand3 (P : Plan) : Type 0 where

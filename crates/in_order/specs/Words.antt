@@ -65,7 +65,8 @@ pub record SameList (x y : BoxState) : Type 0 where
 -- what a step from x to y delivers: nothing, and the list is as it was; or job j, which is added to the list with a stamp
 pub data Delivered (x y : BoxState) (d : Delivery) : Type 0 where
   none : d ≡ Nothing → SameList x y → Delivered x y d
-  one : (j : ℕ) (s : Stamp) → d ≡ Job j → y .core .count ≡ x .core .count + 1 → y .core .list ≡ set (x .core .list) (x .core .count) (record { job = j; stamp = s }) → Delivered x y d
+  one : (j : ℕ) (s : Stamp) → d ≡ Job j → y .core .count ≡ x .core .count + 1
+      → y .core .list ≡ set (x .core .list) (x .core .count) (record { job = j; stamp = s }) → Delivered x y d
 
 -- ---- handed out
 

@@ -7,3 +7,4 @@ pub mod Lex
 pub mod Majority
 pub mod Digits
 pub mod Tray
+pub mod Codec

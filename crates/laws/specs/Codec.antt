@@ -1,12 +1,12 @@
 -- A codec of fixed width: an element as bytes and back. Rows of it, and the pair of a number and one byte.
-use Prim.Native.Nat.{ℕ, zero, suc, _+_, _-_, _*_, _^_, _<_, _≤_}
+use Prim.Native.Nat.{ℕ, zero, suc, _+_, _*_, _^_, _<_, _≤_}
 use mathlib.Core.List.{List, [], _∷_, _++_, append-assoc, append-nil}
 use mathlib.Core.Path.{_≡_, refl, sym, _∙_, ap}
 use native.Mathlib.Nat.{suc-mul, zero-mul, add-comm}
 use native.Mathlib.Numerals.{add-one}
 use native.Mathlib.Omega.{arith}
-use lib.ListN.{length, take, drop, getD, set, replicate, length-append, length-drop}
-use lib.Seq.{set-at, drop-drop, getD-drop, take-add, drop-at, take-suc, getD-at}
+use lib.ListN.{length, take, drop, getD, length-append, length-drop}
+use lib.Seq.{drop-drop, getD-drop, take-add, drop-at, take-suc, getD-at}
 use Rattle.laws.specs.Number.{bigEnd, number, Bytes, big-end-length, number-big-end, big-end-number}
 
 -- w bytes for an element that fits; whatever stands behind them is not read
@@ -54,7 +54,12 @@ module _ {A : Type 0} (C : Codec A) where
   pub dec-row : (l : List A) (more : List ℕ) → AllFit l → decRow (length l) (encRow l ++ more) ≡ l
   dec-row [] more no-more = refl
   dec-row (a ∷ l) more (one-more f fs) =
-      rw (append-assoc (C .enc a) (encRow l) more, C .dec-enc a (encRow l ++ more) f, drop-at (C .enc a) (encRow l ++ more) (C .w) (C .enc-length a), dec-row l more fs)
+      rw (
+        append-assoc (C .enc a) (encRow l) more,
+        C .dec-enc a (encRow l ++ more) f,
+        drop-at (C .enc a) (encRow l ++ more) (C .w) (C .enc-length a),
+        dec-row l more fs,
+      )
 
   -- writing what was read
   pub enc-row : (n : ℕ) (s : List ℕ) → Bytes s → n * C .w ≤ length s → encRow (decRow n s) ≡ take (n * C .w) s
@@ -77,12 +82,6 @@ module _ {A : Type 0} (C : Codec A) where
   -- one element more that is read
   pub read-step : (n : ℕ) (s : List ℕ) → decRow (n + 1) s ≡ decRow n s ++ (C .dec (drop (n * C .w) s) ∷ [])
   read-step n s = rw add-one (read-suc n s)
-
--- an array filled from its front: the next element
-pub fill-step : {A : Type 0} (xs : List A) (n i : ℕ) (d a : A) → length xs ≡ i → i < n → set (xs ++ replicate (n - i) d) i a ≡ (xs ++ (a ∷ [])) ++ replicate (n - (i + 1)) d
-fill-step xs n i d a e h =
-    let k : n - i ≡ suc (n - (i + 1)) = omega arith in
-    rw (k, set-at xs d (replicate (n - (i + 1)) d) a i e, append-assoc)
 
 -- a number of w + 1 bytes, then one byte: stamps and ballots are of this form
 module _ (w : ℕ) where

@@ -32,7 +32,11 @@ number-big-end zero n more h = omega arith
 number-big-end (suc w) n more h =
     let high : n / 256 < 256 ^ suc w = div-lt-iff-lt-mul (lit< tt) .1 (rw pow-suc at h) in
     let front = bigEnd (suc w) (n / 256) in
-    rw (append-assoc front (n % 256 ∷ []) more, number-big-end w (n / 256) ((n % 256 ∷ []) ++ more) high, getD-at front (n % 256) more 0 (suc w) (big-end-length (suc w) (n / 256)))
+    rw (
+      append-assoc front (n % 256 ∷ []) more,
+      number-big-end w (n / 256) ((n % 256 ∷ []) ++ more) high,
+      getD-at front (n % 256) more 0 (suc w) (big-end-length (suc w) (n / 256)),
+    )
     (omega arith)
 
 -- writing what was read

@@ -7,3 +7,5 @@ pub mod ReadLaws
 pub mod Feed
 pub mod Spelling
 pub mod Examples
+pub mod Held
+pub mod Parts

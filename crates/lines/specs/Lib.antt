@@ -1,9 +1,7 @@
 -- What the words and numbers of a line are, which order a line is, how it is held while it comes, and what reading it promises.
 pub mod Parts
-pub mod PartLaws
 pub mod Numeral
 pub mod Orders
-pub mod OrderLaws
 pub mod Held
 pub mod Reads
 pub mod Feed

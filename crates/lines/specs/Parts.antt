@@ -1,7 +1,7 @@
 -- A text in parts: what stands between the bytes that part it.
 -- The words of a line are parted by spaces, the lines of an input by LF.
 use Prim.Native.Nat.{ℕ, suc}
-use mathlib.Core.Bool.{Bool, true, false, not, _&&_}
+use mathlib.Core.Bool.{Bool, true, false, _&&_}
 use mathlib.Core.List.{List, [], _∷_}
 use lib.Dec.{eqb}
 use Rattle.laws.specs.Choice.{pick}
@@ -24,10 +24,6 @@ same (x ∷ xs) (y ∷ ys) = eqb x y && same xs ys
 unfoldable pub every : (ℕ → Bool) → List ℕ → Bool
 every t [] = true
 every t (b ∷ l) = t b && every t l
-
--- no byte is c
-abbrev pub without : ℕ → List ℕ → Bool
-without c l = every (λ b. not (eqb b c)) l
 
 -- the place of the first byte c, or the length where there is none
 unfoldable pub firstOf : ℕ → List ℕ → ℕ

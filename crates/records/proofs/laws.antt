@@ -8,7 +8,6 @@ pub mod Examples
 pub mod Sections
 pub mod Lengths
 pub mod Shapes
-pub mod Carriers
 pub mod Obeys
 pub mod Rows
 pub mod Structs

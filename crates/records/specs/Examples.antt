@@ -63,8 +63,16 @@ bad =
     ∷ newleader-ack (boxNo 1) (boxNo 0) (record { ballot = ballot 2 0; cballot = ballot 2 0; clock = stamp 0 0; table = noRow ∷ noRow ∷ [] })
     ∷ newleader-ack (boxNo 1) (boxNo 0) (record { ballot = ballot 2 0; cballot = ballot 1 3; clock = stamp 0 0; table = noRow ∷ noRow ∷ [] })
     ∷ newleader-ack (boxNo 1) (boxNo 0) (record { ballot = ballot 2 0; cballot = ballot 1 1; clock = stamp 0 1; table = noRow ∷ noRow ∷ [] })
-    ∷ newleader-ack (boxNo 4) (boxNo 3) (record { ballot = ballot 1 3; cballot = noBallot; clock = stamp 0 1; table = noRow ∷ record { phase = 2; local = stamp 1 1; global = noStamp } ∷ [] })
-    ∷ newleader-ack (boxNo 1) (boxNo 0) (record { ballot = ballot 2 0; cballot = ballot 1 1; clock = stamp 0 0; table = record { phase = 0; local = stamp 1 0; global = noStamp } ∷ noRow ∷ [] })
+    ∷
+    newleader-ack
+    (boxNo 4)
+    (boxNo 3)
+    (record { ballot = ballot 1 3; cballot = noBallot; clock = stamp 0 1; table = noRow ∷ record { phase = 2; local = stamp 1 1; global = noStamp } ∷ [] })
+    ∷
+    newleader-ack
+    (boxNo 1)
+    (boxNo 0)
+    (record { ballot = ballot 2 0; cballot = ballot 1 1; clock = stamp 0 0; table = record { phase = 0; local = stamp 1 0; global = noStamp } ∷ noRow ∷ [] })
     -- 7: phase 1; to itself; another's ballot
     ∷ new-state (boxNo 0) (boxNo 1) (record { ballot = ballot 2 0; clock = stamp 5 0; table = proposed ∷ accepted ∷ [] })
     ∷ new-state (boxNo 0) (boxNo 0) (record { ballot = ballot 2 0; clock = stamp 5 0; table = noRow ∷ noRow ∷ [] })

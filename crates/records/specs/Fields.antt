@@ -65,7 +65,9 @@ row-enc-dec s b h =
     let l = pair-again 3 (drop 1 s) (bytes-drop 1 s b) (rw length-drop (omega arith)) in
     let g = pair-again 3 (drop 6 s) (bytes-drop 6 s b) (rw length-drop (omega arith)) in
     ap₂ (λ (x y : List ℕ). (getD s 0 0 ∷ x) ++ y) l g
-    ∙ sym (take-add 6 5 s ∙ ap (λ (x : List ℕ). x ++ take 5 (drop 6 s)) (take-add 1 5 s ∙ ap (λ (x : List ℕ). x ++ take 5 (drop 1 s)) (take-suc s 0 0 (omega arith))))
+    ∙
+    sym
+    (take-add 6 5 s ∙ ap (λ (x : List ℕ). x ++ take 5 (drop 6 s)) (take-add 1 5 s ∙ ap (λ (x : List ℕ). x ++ take 5 (drop 1 s)) (take-suc s 0 0 (omega arith))))
 
 unfoldable pub rows : Codec Row
 rows =

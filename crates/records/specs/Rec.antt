@@ -64,14 +64,20 @@ twoStamps s t = s ∷ t ∷ []
 -- the struct of a record
 unfoldable pub carried : Rec → Record
 carried (multicast from to j) = record { kind = 1; from = from; to = to; job = j; ballots = noBallots; stamps = twoStamps noStamp noStamp; table = noRows }
-carried (accept from to j y) = record { kind = 2; from = from; to = to; job = j; ballots = oneBallot (y .ballot); stamps = twoStamps (y .stamp) noStamp; table = noRows }
+carried (accept from to j y) =
+    record { kind = 2; from = from; to = to; job = j; ballots = oneBallot (y .ballot); stamps = twoStamps (y .stamp) noStamp; table = noRows }
 carried (accept-ack from to j bs) = record { kind = 3; from = from; to = to; job = j; ballots = bs; stamps = twoStamps noStamp noStamp; table = noRows }
-carried (deliver from to j y) = record { kind = 4; from = from; to = to; job = j; ballots = oneBallot (y .ballot); stamps = twoStamps (y .local) (y .global); table = noRows }
-carried (newleader from to b) = record { kind = 5; from = from; to = to; job = noJob; ballots = oneBallot b; stamps = twoStamps noStamp noStamp; table = noRows }
+carried (deliver from to j y) =
+    record { kind = 4; from = from; to = to; job = j; ballots = oneBallot (y .ballot); stamps = twoStamps (y .local) (y .global); table = noRows }
+carried (newleader from to b) =
+    record { kind = 5; from = from; to = to; job = noJob; ballots = oneBallot b; stamps = twoStamps noStamp noStamp; table = noRows }
 carried (newleader-ack from to y) =
-    record { kind = 6; from = from; to = to; job = noJob; ballots = y .ballot ∷ y .cballot ∷ noBallot ∷ noBallot ∷ []; stamps = twoStamps (y .clock) noStamp; table = y .table }
-carried (new-state from to y) = record { kind = 7; from = from; to = to; job = noJob; ballots = oneBallot (y .ballot); stamps = twoStamps (y .clock) noStamp; table = y .table }
-carried (newstate-ack from to b) = record { kind = 8; from = from; to = to; job = noJob; ballots = oneBallot b; stamps = twoStamps noStamp noStamp; table = noRows }
+    record
+    { kind = 6; from = from; to = to; job = noJob; ballots = y .ballot ∷ y .cballot ∷ noBallot ∷ noBallot ∷ []; stamps = twoStamps (y .clock) noStamp; table = y .table }
+carried (new-state from to y) =
+    record { kind = 7; from = from; to = to; job = noJob; ballots = oneBallot (y .ballot); stamps = twoStamps (y .clock) noStamp; table = y .table }
+carried (newstate-ack from to b) =
+    record { kind = 8; from = from; to = to; job = noJob; ballots = oneBallot b; stamps = twoStamps noStamp noStamp; table = noRows }
 carried unknown = record { kind = 0; from = boxNo 0; to = boxNo 0; job = noJob; ballots = noBallots; stamps = twoStamps noStamp noStamp; table = noRows }
 
 -- the struct that carries no record

@@ -82,7 +82,9 @@ rules P (newleader from to b) = neighbours P from to && ballotOf from b
 -- the ballot's box is the addressee; cballot is lower than ballot, and none or of that district
 rules P (newleader-ack from to y) =
     (neighbours P from to && ballotOf to (y .ballot))
-    && ((ballotLt (y .cballot) (y .ballot) && noneOrIn P (homeOf P from) (y .cballot)) && (clockOf (homeOf P from) (y .clock) && rowsSound P (homeOf P from) (y .table) (P .jobs)))
+    &&
+    ((ballotLt (y .cballot) (y .ballot) && noneOrIn P (homeOf P from) (y .cballot))
+    && (clockOf (homeOf P from) (y .clock) && rowsSound P (homeOf P from) (y .table) (P .jobs)))
 rules P (new-state from to y) =
     (others P from to && ballotOf from (y .ballot))
     && (clockOf (homeOf P from) (y .clock) && (rowsSound P (homeOf P from) (y .table) (P .jobs) && noneProposed (y .table) (P .jobs)))

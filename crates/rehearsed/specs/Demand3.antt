@@ -40,7 +40,8 @@ pub record Demand3 (P : Plan) (lent : List ℕ) : Type 0 where
       → Delivered (boxOn (afterwards P lent os) (whose P (afterwards P lent os .night) (afterwards P lent os .post) o)) y d
   -- (3) when a leader p hands out job m with stamp s, to whichever box first, then every job k that names p's district and that ever gets a
   -- final stamp t below s has been handed out in the district before, with that stamp: to all its boxes, by the same leader, in the same ballot
-  pub handed-before : (os later : List Order) (i m k : ℕ) (p : BoxNo) (b : Ballot) (s t : Stamp) → HandsOut P (afterwards P lent os) i p m b s → names P k (homeOf P p) ≡ true
+  pub handed-before : (os later : List Order) (i m k : ℕ) (p : BoxNo) (b : Ballot) (s t : Stamp) → HandsOut P (afterwards P lent os) i p m b s
+      → names P k (homeOf P p) ≡ true
       → FinalStamp P lent (os ++ later) k t → stampLt t s ≡ true → HandedBefore P (afterwards P lent os) i p k b t
 
 -- the regulator's sentence: any two boxes, of whatever districts, at whatever two moments of a rehearsal, have the jobs that they both have in one order

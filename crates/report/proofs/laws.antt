@@ -2,5 +2,4 @@
 pub mod TextLaws
 pub mod Spelled
 pub mod TextExamples
-pub mod ReportLaws
 pub mod Examples

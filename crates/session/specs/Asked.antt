@@ -13,7 +13,8 @@ use Rattle.session.specs.World.{World, act}
 use Rattle.session.specs.declared.turn.Asked.{Asked}
 
 -- from a place on where `line` was coming: at least one byte more is read, up to the end of a line or of the chunk
-pub record Asks (line : LineState) (desk : Desk) (used : ℕ) (chunk : List ℕ) (from : ℕ) (post : List ℕ) (count : ℕ) (index : List ℕ) (r : Asked) (later : List ℕ) : Type 0 where
+pub record Asks (line : LineState) (desk : Desk) (used : ℕ) (chunk : List ℕ) (from : ℕ) (post : List ℕ) (count : ℕ) (index : List ℕ) (r : Asked)
+    (later : List ℕ) : Type 0 where
   pub up : from < r .next
   pub low : r .next ≤ length chunk
   -- a part of a line: it is held, and nothing is done
@@ -21,6 +22,7 @@ pub record Asks (line : LineState) (desk : Desk) (used : ℕ) (chunk : List ℕ)
       × ((q : Reading World) → allRead act q (take from chunk) .line ≡ line
       → allRead act q (take (r .next) chunk) ≡ record { line = r .line; state = allRead act q (take from chunk) .state })
   -- the end of a line: what it says is acted on, and the box that it is for is found
-  pub whole : r .ended ≡ true → Found (desk .plan) (desk .fixed) used (askOf (r .typed)) post count (record { at = r .at; start = r .start; count = r .count }) later
+  pub whole : r .ended ≡ true
+      → Found (desk .plan) (desk .fixed) used (askOf (r .typed)) post count (record { at = r .at; start = r .start; count = r .count }) later
       × ((q : Reading World) → allRead act q (take from chunk) .line ≡ line
       → allRead act q (take (r .next) chunk) ≡ record { line = r .line; state = act (allRead act q (take from chunk) .state) (r .typed) })

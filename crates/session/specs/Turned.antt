@@ -35,7 +35,8 @@ pub record Turns (desk : Desk) (used : ℕ) (x : BoxState) (post : List ℕ) (o 
   pub most : r .text ≤ answerMost
   -- in a night in which the box stands at its place
   pub does : (n : Night) (at : ℕ) → Stands (desk .plan) used x post (askOf o) n at
-      → (text : List ℕ) × (handled desk n post o ≡ record { desk = r .desk; night = record { boxes = boxesAfter r at (n .boxes); used = r .used }; post = later; text = text })
+      → (text : List ℕ)
+      × (handled desk n post o ≡ record { desk = r .desk; night = record { boxes = boxesAfter r at (n .boxes); used = r .used }; post = later; text = text })
       × (r .text ≡ length text) × (after ≡ onto text before)
   -- a box known to be sound is so under a plan that is fixed, and a new one stays so
   pub known : r .known ≡ true → (r .desk .fixed ≡ true) × (sound (r .desk .plan) x ≡ true)

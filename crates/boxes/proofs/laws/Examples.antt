@@ -17,7 +17,8 @@ use Rattle.records.specs.Rec.{carried}
 use Rattle.records.specs.Rules.{rowSound, rowsSound, startRow, isNoRow, spareRows}
 use Rattle.records.specs.Bytes.{headBytes, ballotBytes, stampBytes, rowBytes, encode}
 use Rattle.boxes.specs.Box.{fresh, freshVolatile, rowAt, sentAt, keptAt, keptBallot, keptStamp, marksAt, listedAt, raised}
-use Rattle.boxes.specs.Sound.{sound, boxSound, rangeSound, ballotsSound, tableSound, sentSound, keptSound, jobKeptSound, allKeptSound, marksSound, allMarksSound, unlisted, listSound, unvoted, voteSound}
+use Rattle.boxes.specs.Sound.{sound, boxSound, rangeSound, ballotsSound, tableSound, sentSound, keptSound, jobKeptSound, allKeptSound, marksSound}
+use Rattle.boxes.specs.Sound.{allMarksSound, unlisted, listSound, unvoted, voteSound}
 use Rattle.boxes.specs.Ready.{isOpen, openAbove, ready, better, nextBelow}
 use Rattle.boxes.specs.Merge.{topBallot, voteRow, committedAt, acceptedAt, firstRow, mergedRow}
 use Rattle.boxes.specs.Stand.{nextBallot}

@@ -8,8 +8,8 @@ use native.Mathlib.Omega.{arith}
 use lib.ListN.{getD}
 use lib.Dec.{leb, ltb, eqb}
 use borrow.Author.Tests.{eqb-true, eq-eqb, ne-eqb, ltb-true, ltb-false, lt-ltb, le-ltb, leb-true, le-leb, not-true}
-use Rattle.laws.specs.Choice.{pick, pick-true, pick-false, and-both}
-use Rattle.laws.proofs.laws.Choice.{pick-when, never, or-right, or-other, both}
+use Rattle.laws.specs.Choice.{pick}
+use Rattle.laws.proofs.laws.Choice.{pick-true, pick-false, and-both, pick-when, never, or-right, or-other, both}
 use Rattle.laws.specs.Fold.{allBelow, someBelow}
 use Rattle.laws.proofs.laws.Fold.{all-says, all-is, some-is, none-below}
 use Rattle.house.specs.Limits.{mostJobs}
@@ -66,7 +66,9 @@ module _ (P : Plan) (x : BoxState) where
         named = λ i l. entry i l .named;
         stamped = λ i l. entry i l .stamped;
         rising = λ i l. up i (entry (suc i) l .rising);
-        once = λ i k lt l e. never (some-is (λ q. eqb (listedAt x q .job) (listedAt x i .job)) i k lt (eq-eqb (listedAt x k .job) (listedAt x i .job) e)) (entry i l .once);
+        once =
+            λ i k lt l e.
+            never (some-is (λ q. eqb (listedAt x q .job) (listedAt x i .job)) i k lt (eq-eqb (listedAt x k .job) (listedAt x i .job) e)) (entry i l .once);
         behind = λ i ge l. nothing i (rw (pick-false (listedSound P x i) (unlisted x i) (le-ltb i (x .core .count) ge)) at (place i l));
       }
     where
@@ -79,7 +81,8 @@ module _ (P : Plan) (x : BoxState) where
       entry : (i : ℕ) → i < x .core .count → EntryOk i
       entry i l = let m = most in entry-says i (rw (pick-true (listedSound P x i) (unlisted x i) (lt-ltb i (x .core .count) l)) at (place i (omega arith)))
 
-      up : (i : ℕ) → (eqb (suc i) 0 || stampLt (listedAt x (suc i - 1) .stamp) (listedAt x (suc i) .stamp)) ≡ true → stampLt (listedAt x i .stamp) (listedAt x (suc i) .stamp) ≡ true
+      up : (i : ℕ) → (eqb (suc i) 0 || stampLt (listedAt x (suc i - 1) .stamp) (listedAt x (suc i) .stamp)) ≡ true
+          → stampLt (listedAt x i .stamp) (listedAt x (suc i) .stamp) ≡ true
       up i r =
           let e : suc i - 1 ≡ i = omega arith in
           or-other (eqb (suc i) 0) (stampLt (listedAt x i .stamp) (listedAt x (suc i) .stamp)) (rw e at r) (ne-eqb (suc i) 0 (λ q. omega arith))
@@ -94,7 +97,10 @@ module _ (P : Plan) (x : BoxState) where
   pub list-is : ListOk P (homeIn P x) (x .core .count) (x .core .list) → listSound P x ≡ true
   unfolding listSound listedAt unlisted
   list-is L =
-      and-both (leb (x .core .count) mostJobs) (allBelow (λ i. pick (ltb i (x .core .count)) (listedSound P x i) (unlisted x i)) mostJobs) (le-leb (x .core .count) mostJobs (L .most))
+      and-both
+      (leb (x .core .count) mostJobs)
+      (allBelow (λ i. pick (ltb i (x .core .count)) (listedSound P x i) (unlisted x i)) mostJobs)
+      (le-leb (x .core .count) mostJobs (L .most))
       (all-is (λ i. pick (ltb i (x .core .count)) (listedSound P x i) (unlisted x i)) mostJobs
       (λ i l.
       pick-when (λ t. t ≡ true) (ltb i (x .core .count)) (λ e. entry-is i (entry i (ltb-true i (x .core .count) e)))
@@ -102,10 +108,12 @@ module _ (P : Plan) (x : BoxState) where
     where
       up : (i : ℕ) → i < x .core .count → (eqb i 0 || stampLt (listedAt x (i - 1) .stamp) (listedAt x i .stamp)) ≡ true
       up zero l = refl
-      up (suc i) l = let e : suc i - 1 ≡ i = omega arith in rw e (or-right (eqb (suc i) 0) (stampLt (listedAt x i .stamp) (listedAt x (suc i) .stamp)) (L .rising i l))
+      up (suc i) l =
+          let e : suc i - 1 ≡ i = omega arith in rw e (or-right (eqb (suc i) 0) (stampLt (listedAt x i .stamp) (listedAt x (suc i) .stamp)) (L .rising i l))
 
       alone : (i : ℕ) → i < x .core .count → someBelow (λ k. eqb (listedAt x k .job) (listedAt x i .job)) i ≡ false
-      alone i l = none-below (λ k. eqb (listedAt x k .job) (listedAt x i .job)) i (λ k lt e. L .once i k lt l (eqb-true (listedAt x k .job) (listedAt x i .job) e))
+      alone i l =
+          none-below (λ k. eqb (listedAt x k .job) (listedAt x i .job)) i (λ k lt e. L .once i k lt l (eqb-true (listedAt x k .job) (listedAt x i .job) e))
 
       entry : (i : ℕ) → i < x .core .count → EntryOk i
       entry i l = record { named = L .named i l; stamped = L .stamped i l; rising = up i l; once = alone i l }

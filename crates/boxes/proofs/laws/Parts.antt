@@ -7,8 +7,7 @@ use mathlib.Core.Path.{_≡_}
 use lib.ListN.{getD}
 use lib.Dec.{ltb, eqb}
 use borrow.Author.Tests.{eqb-true, eq-eqb, ltb-true, lt-ltb, not-true, not-false}
-use Rattle.laws.specs.Choice.{and-both, not-off}
-use Rattle.laws.proofs.laws.Choice.{or-right, or-cases, or-other, not-of, both, or-if}
+use Rattle.laws.proofs.laws.Choice.{and-both, not-off, or-right, or-cases, or-other, not-of, both, or-if}
 use Rattle.laws.specs.Fold.{allBelow}
 use Rattle.laws.proofs.laws.Fold.{all-says, all-is, from-says, from-is}
 use Rattle.house.specs.Limits.{mostDistricts, mostJobs}
@@ -54,7 +53,8 @@ pub data KeptOk (P : Plan) (j : ℕ) (d : District) (b : Ballot) (s : Stamp) : T
 
 -- one of 256 pairs
 pub record KeptsOk (P : Plan) (bs : List Ballot) (ss : List Stamp) : Type 0 where
-  pub pair : (j d : ℕ) → j < mostJobs → d < mostDistricts → KeptOk P j (district d) (getD bs (keptAt j (district d)) noBallot) (getD ss (keptAt j (district d)) noStamp)
+  pub pair : (j d : ℕ) → j < mostJobs → d < mostDistricts
+      → KeptOk P j (district d) (getD bs (keptAt j (district d)) noBallot) (getD ss (keptAt j (district d)) noStamp)
 
 -- ---- marks
 
@@ -72,7 +72,13 @@ ballots-say P x h =
     let a = both h in let b = both (a .0) in let c = both (b .0) in let d = both (b .1) in
     record {
       at-most = not-true (ballotLt (x .core .ballot) (x .core .cballot)) (c .0);
-      equal = λ e. ballotOrder .eq-says (x .core .cballot) (x .core .ballot) (or-other (isRecovering (x .core .status)) (sameBallot (x .core .cballot) (x .core .ballot)) (c .1) e);
+      equal =
+          λ e.
+          ballotOrder
+          .eq-says
+          (x .core .cballot)
+          (x .core .ballot)
+          (or-other (isRecovering (x .core .status)) (sameBallot (x .core .cballot) (x .core .ballot)) (c .1) e);
       ballot-home = d .0;
       cballot-home = d .1;
       leader = λ e. or-other (not (isLeader (x .core .status))) (ballotOf (ownOf x) (x .core .cballot)) (a .1) (not-of e);
@@ -85,7 +91,8 @@ ballots-are P x B =
     (or-if (not (isLeader (x .core .status))) (ballotOf (ownOf x) (x .core .cballot)) (λ e. B .leader (not-false (isLeader (x .core .status)) e)))
   where
     recovering : (isRecovering (x .core .status) || sameBallot (x .core .cballot) (x .core .ballot)) ≡ true
-    recovering = or-if (isRecovering (x .core .status)) (sameBallot (x .core .cballot) (x .core .ballot)) (λ e. rw (B .equal e) (ballotOrder .eq-is (x .core .ballot)))
+    recovering =
+        or-if (isRecovering (x .core .status)) (sameBallot (x .core .cballot) (x .core .ballot)) (λ e. rw (B .equal e) (ballotOrder .eq-is (x .core .ballot)))
 
 pub sent-says : (P : Plan) (x : BoxState) → sentSound P x ≡ true → SentOk P (x .core .sent)
 unfolding sentSound sentAt isJob
@@ -113,16 +120,24 @@ kept-is : (P : Plan) (x : BoxState) (j : ℕ) (d : District) → KeptOk P j d (k
 unfolding keptSound
 kept-is P x j d (not-kept e f) = rw (e, f, no-ballot-is, no-stamp-is)
 kept-is P x j d (is-kept n b s) =
-    or-right (isNoBallot (keptBallot x j d) && isNoStamp (keptStamp x j d)) (names P j d && (ballotIn P d (keptBallot x j d) && stampOf d (keptStamp x j d))) (rw (n, b, s))
+    or-right
+    (isNoBallot (keptBallot x j d) && isNoStamp (keptStamp x j d))
+    (names P j d && (ballotIn P d (keptBallot x j d) && stampOf d (keptStamp x j d)))
+    (rw (n, b, s))
 
 pub kepts-say : (P : Plan) (x : BoxState) → allKeptSound P x ≡ true → KeptsOk P (x .volatile .«kept_ballots») (x .volatile .«kept_stamps»)
 unfolding allKeptSound jobKeptSound keptBallot keptStamp
 kepts-say P x h =
-    record { pair = λ j d lj ld. kept-says P x j (district d) (all-says (λ e. keptSound P x j (district e)) mostDistricts (all-says (jobKeptSound P x) mostJobs h j lj) d ld) }
+    record
+    { pair = λ j d lj ld. kept-says P x j (district d) (all-says (λ e. keptSound P x j (district e)) mostDistricts (all-says (jobKeptSound P x) mostJobs h j lj) d ld) }
 
 pub kepts-are : (P : Plan) (x : BoxState) → KeptsOk P (x .volatile .«kept_ballots») (x .volatile .«kept_stamps») → allKeptSound P x ≡ true
 unfolding allKeptSound jobKeptSound keptBallot keptStamp
-kepts-are P x K = all-is (jobKeptSound P x) mostJobs (λ j lj. all-is (λ e. keptSound P x j (district e)) mostDistricts (λ d ld. kept-is P x j (district d) (K .pair j d lj ld)))
+kepts-are P x K =
+    all-is
+    (jobKeptSound P x)
+    mostJobs
+    (λ j lj. all-is (λ e. keptSound P x j (district e)) mostDistricts (λ d ld. kept-is P x j (district d) (K .pair j d lj ld)))
 
 pub marks-say : (P : Plan) (x : BoxState) → allMarksSound P x ≡ true → MarksOk P (x .volatile .marks)
 unfolding allMarksSound marksSound marksAt
@@ -147,6 +162,9 @@ marks-are P x M = all-is (marksSound P x) mostJobs (λ j l. go j (M .job j l))
     go : (j : ℕ) → MarkOk P j (getD (x .volatile .marks) j noMarks) → marksSound P x j ≡ true
     go j K =
         let m = marksAt x j in
-        and-both (ltb m (2 ^ boxesOf P)) (allBelow (λ d. names P j (district d) || eqb (marksIn P m (district d)) 0) (P .districts)) (lt-ltb m (2 ^ boxesOf P) (K .low))
+        and-both
+        (ltb m (2 ^ boxesOf P))
+        (allBelow (λ d. names P j (district d) || eqb (marksIn P m (district d)) 0) (P .districts))
+        (lt-ltb m (2 ^ boxesOf P) (K .low))
         (all-is (λ d. names P j (district d) || eqb (marksIn P m (district d)) 0) (P .districts)
         (λ d l. or-if (names P j (district d)) (eqb (marksIn P m (district d)) 0) (λ n. eq-eqb (marksIn P m (district d)) 0 (K .named d l n))))

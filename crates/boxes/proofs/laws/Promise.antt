@@ -44,7 +44,8 @@ result-says P x (does y l d) = record { answer = record { done-is = refl; number
 pub says-result : {P : Plan} {x : BoxState} {o : Out} {r : Outcome} → r ≡ resultOf P x o → Says P x o r
 says-result {P} {x} {o} e = rw e (result-says P x o)
 
-pub stepped : {P : Plan} {x : BoxState} {o : Out} {before : List ℕ} {r : Outcome} {after : List ℕ} → r ≡ resultOf P x o → after ≡ onto (encodeAll P (recordsOf o)) before
+pub stepped : {P : Plan} {x : BoxState} {o : Out} {before : List ℕ} {r : Outcome} {after : List ℕ} → r ≡ resultOf P x o
+    → after ≡ onto (encodeAll P (recordsOf o)) before
     → Stepped P x o before r after
 stepped e f = record { says = says-result e; tray = f }
 

@@ -4,8 +4,7 @@ use mathlib.Core.Bool.{true, false}
 use mathlib.Core.Logic.{_⊎_, inl, inr}
 use mathlib.Core.Path.{_≡_, _∙_}
 use borrow.Author.Tests.{eqb-true, eq-eqb, leb-true, le-leb}
-use Rattle.laws.specs.Choice.{pick-true, pick-false, and-both}
-use Rattle.laws.proofs.laws.Choice.{look, both, never}
+use Rattle.laws.proofs.laws.Choice.{pick-true, pick-false, and-both, look, both, never}
 use Rattle.house.specs.Limits.{mostTime}
 use Rattle.house.specs.Pairs.{noBallot, ballotLt, ballotOf, timeFits}
 use Rattle.house.specs.declared.Ballot.{Ballot}
@@ -19,7 +18,8 @@ use Rattle.records.specs.Rules.{rules, spareRows}
 use Rattle.records.specs.Rec.{newleader-ack}
 use Rattle.boxes.specs.declared.BoxState.{BoxState}
 use Rattle.boxes.specs.declared.Vote.{Vote}
-use Rattle.boxes.proofs.laws.Parts.{BallotsOk, SentOk, KeptsOk, MarksOk, ballots-say, ballots-are, sent-says, sent-is, kepts-say, kepts-are, marks-say, marks-are}
+use Rattle.boxes.proofs.laws.Parts.{BallotsOk, SentOk, KeptsOk, MarksOk, ballots-say, ballots-are, sent-says, sent-is, kepts-say, kepts-are, marks-say}
+use Rattle.boxes.proofs.laws.Parts.{marks-are}
 use Rattle.boxes.proofs.laws.Listing.{ListOk, list-says, list-is}
 use Rattle.boxes.specs.Box.{homeIn, ownOf}
 use Rattle.boxes.specs.Sound.{rangeSound, tableSound, paperOf, heldSound, unvoted, voteSound, boxSound, sound}
@@ -103,7 +103,8 @@ no-vote-says : (v : Vote) → unvoted v ≡ true → NoVote v
 unfolding unvoted
 no-vote-says v h =
     let a = both h in let b = both (a .0) in let c = both (a .1) in
-    record { voter = eqb-true (v .voter .0) 0 (b .0); cballot = no-ballot-says (v .cballot) (b .1); clock = eqb-true (v .clock) 0 (c .0); table = no-rows-say (v .table) (c .1) }
+    record
+    { voter = eqb-true (v .voter .0) 0 (b .0); cballot = no-ballot-says (v .cballot) (b .1); clock = eqb-true (v .clock) 0 (c .0); table = no-rows-say (v .table) (c .1) }
 
 no-vote-is : (v : Vote) → NoVote v → unvoted v ≡ true
 unfolding unvoted
@@ -146,7 +147,14 @@ unfolding sound boxSound rangeSound tableSound timeFits
 sound-is P x S =
     let d = homeIn P x in
     let t = x .core .table in
-    rw (S .plan, S .own, le-leb (x .core .clock) mostTime (S .clock), ballots-are P x (S .ballots), table-rows P d t (S .plan) (S .table), table-spare P d t (S .table))
+    rw (
+      S .plan,
+      S .own,
+      le-leb (x .core .clock) mostTime (S .clock),
+      ballots-are P x (S .ballots),
+      table-rows P d t (S .plan) (S .table),
+      table-spare P d t (S .table),
+    )
     (rw (sent-is P x (S .sent), kepts-are P x (S .kept), marks-are P x (S .marks), list-is P x (S .list)) (vote-is P x (S .plan) (S .vote)))
 
 -- ---- laws

@@ -5,8 +5,7 @@ use mathlib.Core.Logic.{_⊎_, inl, inr, ⊎-elim}
 use mathlib.Core.Path.{_≡_, refl, sym, ap, _∙_}
 use native.Mathlib.Nat.{eq-or-lt-of-le}
 use native.Mathlib.Omega.{arith}
-use Rattle.laws.specs.Choice.{pick-true, pick-false, not-off}
-use Rattle.laws.proofs.laws.Choice.{look, never, or-other, or-left, or-right, not-of}
+use Rattle.laws.proofs.laws.Choice.{pick-true, pick-false, not-off, look, never, or-other, or-left, or-right, not-of}
 use Rattle.laws.proofs.laws.Fold.{all-says, all-is, some-says, some-is}
 use Rattle.house.specs.Pairs.{district, boxNo}
 use Rattle.house.specs.Plan.{sizeOf, homeOf, names}
@@ -23,7 +22,8 @@ step-found : (n : Night) (j k : ℕ) → firstBelow n j k .found ≡ true → fi
 unfolding firstBelow firstOf
 step-found n j k e = pick-true _ _ e
 
-step-hit : (n : Night) (j k : ℕ) → firstBelow n j k .found ≡ false → isCommitted (rowOf n j k) ≡ true → firstBelow n j (suc k) ≡ record { found = true; stamp = rowOf n j k .global }
+step-hit : (n : Night) (j k : ℕ) → firstBelow n j k .found ≡ false → isCommitted (rowOf n j k) ≡ true
+    → firstBelow n j (suc k) ≡ record { found = true; stamp = rowOf n j k .global }
 unfolding firstBelow firstOf
 step-hit n j k e h = pick-false _ _ e ∙ pick-true _ _ h
 
@@ -56,8 +56,10 @@ first-some n j (suc k) e = go (look (firstBelow n j k .found)) (look (isCommitte
     go (inl t) u r =
         let z = r t in
         let b = z .is-box in
-        record { box = z .box; is-box = omega arith; committed = z .committed; stamped = ap (λ (x : Committed). x .stamp) (step-found n j k t) ∙ z .stamped; lowest = z .lowest }
-    go (inr t) (inl u) r = record { box = k; is-box = omega arith; committed = u; stamped = ap (λ (x : Committed). x .stamp) (step-hit n j k t u); lowest = first-none n j k t }
+        record
+        { box = z .box; is-box = omega arith; committed = z .committed; stamped = ap (λ (x : Committed). x .stamp) (step-found n j k t) ∙ z .stamped; lowest = z .lowest }
+    go (inr t) (inl u) r =
+        record { box = k; is-box = omega arith; committed = u; stamped = ap (λ (x : Committed). x .stamp) (step-hit n j k t u); lowest = first-none n j k t }
     go (inr t) (inr u) r = never (sym (ap (λ (x : Committed). x .found) (step-miss n j k t u)) ∙ e) t
 
 -- a finished job is on the list of a box in each district that it names
@@ -66,7 +68,11 @@ pub finished-says : (P : Plan) (n : Night) (j k : ℕ) → finished P n j k ≡ 
 unfolding finished doneIn listedIn
 finished-says P n j k e d h m =
     let s = all-says (doneIn P n j) k e d h in
-    let z = some-says (λ i. onList (boxIn n (d * sizeOf P + i)) j) (sizeOf P) (or-other (not (names P j (district d))) (listedIn n j (d * sizeOf P) (sizeOf P)) s (not-of m)) in
+    let z =
+    some-says
+    (λ i. onList (boxIn n (d * sizeOf P + i)) j)
+    (sizeOf P)
+    (or-other (not (names P j (district d))) (listedIn n j (d * sizeOf P) (sizeOf P)) s (not-of m)) in
     (d * sizeOf P + z .0, home-is P d (z .0) (z .1), z .2)
 
 -- and a job on such lists is finished
@@ -75,6 +81,12 @@ pub finished-is : (P : Plan) (n : Night) (j k : ℕ)
 unfolding finished doneIn listedIn
 finished-is P n j k f = all-is (doneIn P n j) k (λ d h. go d h (look (names P j (district d))))
   where
-    go : (d : ℕ) → d < k → (names P j (district d) ≡ true) ⊎ (names P j (district d) ≡ false) → not (names P j (district d)) || listedIn n j (d * sizeOf P) (sizeOf P) ≡ true
-    go d h (inl m) = let z = f d h m in or-right (not (names P j (district d))) (listedIn n j (d * sizeOf P) (sizeOf P)) (some-is (λ i. onList (boxIn n (d * sizeOf P + i)) j) (sizeOf P) (z .0) (z .1) (z .2))
+    go : (d : ℕ) → d < k → (names P j (district d) ≡ true) ⊎ (names P j (district d) ≡ false)
+        → not (names P j (district d)) || listedIn n j (d * sizeOf P) (sizeOf P) ≡ true
+    go d h (inl m) =
+        let z = f d h m in
+        or-right
+        (not (names P j (district d)))
+        (listedIn n j (d * sizeOf P) (sizeOf P))
+        (some-is (λ i. onList (boxIn n (d * sizeOf P + i)) j) (sizeOf P) (z .0) (z .1) (z .2))
     go d h (inr m) = or-left (not (names P j (district d))) (listedIn n j (d * sizeOf P) (sizeOf P)) (not-off m)

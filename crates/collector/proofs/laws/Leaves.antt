@@ -40,7 +40,8 @@ use Rattle.collector.specs.Leaves.{Sent, Stays, Face}
 
 -- ---- records
 
-sent : {P : Plan} {from : BoxNo} {l : List Rec} (count used : ℕ) (before tray : List ℕ) → planSound P ≡ true → AllGood P from l → length (encodeAll P l) ≤ longestOutput
+sent : {P : Plan} {from : BoxNo} {l : List Rec} (count used : ℕ) (before tray : List ℕ) → planSound P ≡ true → AllGood P from l
+    → length (encodeAll P l) ≤ longestOutput
     → count ≡ length l → used ≡ length (encodeAll P l) → tray ≡ onto (encodeAll P l) before → Sent P from count used tray
 sent {P} {from} {l} count used before tray s G f c u t =
     record {
@@ -66,7 +67,8 @@ module _ {P : Plan} {x : BoxState} (s : sound P x ≡ true) (L : Lengths x) wher
   said-stays : {o : Out} {r : Outcome} → Every (Keeps P x) o → Says P x o r → Stays P x (r .state)
   said-stays {o} e p = subst (Stays P x) (sym (p .state)) (box-stays o e)
 
-  stepped-sent : {o : Out} {before : List ℕ} {r : Outcome} {after : List ℕ} → Every (Keeps P x) o → Stepped P x o before r after → Sent P (x .core .own) (r .records) (r .used) after
+  stepped-sent : {o : Out} {before : List ℕ} {r : Outcome} {after : List ℕ} → Every (Keeps P x) o → Stepped P x o before r after
+      → Sent P (x .core .own) (r .records) (r .used) after
   stepped-sent {o} {before} {r} {after} e p =
       let g = good-records o e in
       sent (r .records) (r .used) before after (sound-plan P x s) (g .0) (g .1) (p .says .records) (p .says .used) (p .tray)
@@ -76,7 +78,11 @@ module _ {P : Plan} {x : BoxState} (s : sound P x ≡ true) (L : Lengths x) wher
   received-every room bytes =
       let A = parse-arrays P bytes (sound-plan P x s) in
       let Z : Sized (parse P bytes) = record { ballots = A .four; stamps = A .two; table = A .many } in
-      every-guard (sound P x) _ _ (λ a. every-guard (leb leastTray room) _ _ (λ b. every-guard (shaped P bytes) _ _ (λ c. takes-every P x room (parse P bytes) L Z)))
+      every-guard
+      (sound P x)
+      _
+      _
+      (λ a. every-guard (leb leastTray room) _ _ (λ b. every-guard (shaped P bytes) _ _ (λ c. takes-every P x room (parse P bytes) L Z)))
 
   -- receive
   receive-leaves : (bytes : List ℕ) {before : List ℕ} {r : Outcome} {after : List ℕ} → BytesReceived P x bytes before r after
@@ -89,7 +95,8 @@ module _ {P : Plan} {x : BoxState} (s : sound P x ≡ true) (L : Lengths x) wher
   retry-leaves j {before} p = let e = retried-every P x j (length before) L in (said-stays e (p .says), stepped-sent e p)
 
   -- stand_up
-  stand-leaves : {before : List ℕ} {r : Outcome} {after : List ℕ} → BoxStood P x before r after → Stays P x (r .state) × Sent P (x .core .own) (r .records) (r .used) after
+  stand-leaves : {before : List ℕ} {r : Outcome} {after : List ℕ} → BoxStood P x before r after
+      → Stays P x (r .state) × Sent P (x .core .own) (r .records) (r .used) after
   stand-leaves {before} p = let e = stood-every P x (length before) L in (said-stays e (p .says), stepped-sent e p)
 
   -- cut_off

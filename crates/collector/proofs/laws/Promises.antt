@@ -1,7 +1,7 @@
 -- Laws of what specs/Promises.antt defines.
 use Prim.Native.Nat.{ℕ}
 use mathlib.Core.List.{List}
-use mathlib.Core.Path.{_≡_, refl, sym, _∙_}
+use mathlib.Core.Path.{_≡_, sym, _∙_}
 use lib.ListN.{length}
 use Rattle.laws.specs.Tray.{onto}
 use Rattle.house.specs.declared.BoxNo.{BoxNo}
@@ -20,14 +20,17 @@ use Rattle.collector.specs.Promises.{BoxFresh, BytesReceived, JobRetried
 pub one-fresh : (own : BoxNo) {x y : BoxState} → BoxFresh own x → BoxFresh own y → x ≡ y
 one-fresh own p q = p ∙ sym q
 
-pub one-receipt : (P : Plan) (x : BoxState) (bytes before : List ℕ) {r q : Outcome} {t u : List ℕ} → BytesReceived P x bytes before r t → BytesReceived P x bytes before q u
+pub one-receipt : (P : Plan) (x : BoxState) (bytes before : List ℕ) {r q : Outcome} {t u : List ℕ} → BytesReceived P x bytes before r t
+    → BytesReceived P x bytes before q u
     → (r ≡ q) × (t ≡ u)
 one-receipt P x bytes before p q = one-step p q
 
-pub one-retry : (P : Plan) (x : BoxState) (j : ℕ) (before : List ℕ) {r q : Outcome} {t u : List ℕ} → JobRetried P x j before r t → JobRetried P x j before q u → (r ≡ q) × (t ≡ u)
+pub one-retry : (P : Plan) (x : BoxState) (j : ℕ) (before : List ℕ) {r q : Outcome} {t u : List ℕ} → JobRetried P x j before r t → JobRetried P x j before q u
+    → (r ≡ q) × (t ≡ u)
 one-retry P x j before p q = one-step p q
 
-pub one-stand : (P : Plan) (x : BoxState) (before : List ℕ) {r q : Outcome} {t u : List ℕ} → BoxStood P x before r t → BoxStood P x before q u → (r ≡ q) × (t ≡ u)
+pub one-stand : (P : Plan) (x : BoxState) (before : List ℕ) {r q : Outcome} {t u : List ℕ} → BoxStood P x before r t → BoxStood P x before q u
+    → (r ≡ q) × (t ≡ u)
 one-stand P x before p q = one-step p q
 
 pub one-cut : (P : Plan) (x : BoxState) {r q : Outcome} → BoxCut P x r → BoxCut P x q → r ≡ q
@@ -45,8 +48,3 @@ pub job-posted : {P : Plan} {j : ℕ} {before : List ℕ} {p : Posted} {after : 
     → after ≡ onto (encodeAll P (postedRecords P j (mayPost P j (length before)))) before → JobPosted P j before p after
 unfolding mayPost
 job-posted {P} {j} {before} a u n t = record { answer = answered-of (postNo P j (length before)) a; used = u; records = n; tray = t }
-
--- its answer
-pub posted-answer : {P : Plan} {j : ℕ} {before : List ℕ} {p : Posted} {after : List ℕ} → JobPosted P j before p after → p .answer ≡ mayPost P j (length before)
-unfolding mayPost
-posted-answer {P} {j} {before} p = one-answer (p .answer) (answered-of (postNo P j (length before)) refl)

@@ -56,7 +56,8 @@ abbrev pub tray₁ : List ℕ
 tray₁ = replicate leastTray 0
 
 -- bytes of a record for the box are received as the record
-received : (m : Rec) → Arrays (carried m) → valid plan₁ (carried m) ≡ true → receives plan₁ box₁ (length tray₁) (encode plan₁ (carried m)) ≡ takes plan₁ box₁ leastTray (carried m)
+received : (m : Rec) → Arrays (carried m) → valid plan₁ (carried m) ≡ true
+    → receives plan₁ box₁ (length tray₁) (encode plan₁ (carried m)) ≡ takes plan₁ box₁ leastTray (carried m)
 unfolding receives guard
 received m A v =
     rw (box-is-sound, encode-shaped plan₁ (carried m) plan-is-sound A v, parse-encode plan₁ (carried m) plan-is-sound A v)
@@ -134,7 +135,8 @@ module _ (g : Keeping) where
   not-silent h = let a = it-writes in let b = sym (ap (λ (o : Outcome). o .used) moves) ∙ h plan₁ box₁ (encode plan₁ (carried call)) tray₁ in omega arith
 
 -- an invented byte count or record count: an outcome that differs from one that fits in such a number does not fit, whatever the tray
-pub not-inventing : (P : Plan) (x : BoxState) (bytes before : List ℕ) {t u : List ℕ} {r q : Outcome} → BytesReceived P x bytes before r t → BytesReceived P x bytes before q u
+pub not-inventing : (P : Plan) (x : BoxState) (bytes before : List ℕ) {t u : List ℕ} {r q : Outcome} → BytesReceived P x bytes before r t
+    → BytesReceived P x bytes before q u
     → (q .used ≢ r .used → ⊥) × (q .records ≢ r .records → ⊥)
 not-inventing P x bytes before p q =
     let e = one-receipt P x bytes before q p .0 in

@@ -1,14 +1,15 @@
 -- Both orders are instances of one law of lexicographic pairs; each as one number; what the tests say.
 use Prim.Native.Nat.{ℕ, _+_, _*_, _<_, _≤_}
-use mathlib.Core.Bool.{true, false}
+use mathlib.Core.Bool.{true}
 use mathlib.Core.Path.{_≡_, refl, ap}
 use lib.Dec.{leb, eqb}
 use borrow.Author.Tests.{leb-true, eqb-true, le-leb, eq-eqb}
-use Rattle.laws.specs.Choice.{and-left, and-right, and-both}
+use Rattle.laws.proofs.laws.Choice.{and-left, and-right, and-both}
 use Rattle.laws.specs.Lex.{Order}
-use Rattle.laws.proofs.laws.Lex.{lexOrder, lex-rank, lex-rank-not, rank-lex, rank-inj}
+use Rattle.laws.proofs.laws.Lex.{lexOrder, lex-rank}
 use Rattle.house.specs.Limits.{mostTime, mostNumber}
-use Rattle.house.specs.Pairs.{district, boxNo, noStamp, noBallot, stampLt, ballotLt, sameStamp, sameBallot, isNoStamp, isNoBallot, timeFits, realStamp, realBallot, stampOf, ballotOf}
+use Rattle.house.specs.Pairs.{district, boxNo, noStamp, noBallot, stampLt, ballotLt, sameStamp, sameBallot, isNoStamp, isNoBallot, timeFits, realStamp}
+use Rattle.house.specs.Pairs.{realBallot, stampOf, ballotOf}
 use Rattle.house.specs.declared.Stamp.{Stamp}
 use Rattle.house.specs.declared.District.{District}
 use Rattle.house.specs.declared.Ballot.{Ballot}
@@ -29,42 +30,12 @@ pub ballotOrder : Order Ballot ballotLt sameBallot noBallot
 unfolding ballotLt sameBallot
 ballotOrder = lexOrder Ballot (λ b. b .number) (λ b. b .owner .0) ballot-ext noBallot refl refl
 
--- the order as one number: districts and boxes are bytes
-abbrev pub stampRank : Stamp → ℕ
-stampRank s = s .time * 256 + s .district .0
-
 abbrev pub ballotRank : Ballot → ℕ
 ballotRank b = b .number * 256 + b .owner .0
-
-pub stamp-rank : (a b : Stamp) → a .district .0 < 256 → b .district .0 < 256 → stampLt a b ≡ true → stampRank a < stampRank b
-unfolding stampLt
-stamp-rank a b h k e = lex-rank 256 (a .time) (a .district .0) (b .time) (b .district .0) h k e
-
-pub stamp-rank-not : (a b : Stamp) → a .district .0 < 256 → b .district .0 < 256 → stampLt a b ≡ false → stampRank b ≤ stampRank a
-unfolding stampLt
-stamp-rank-not a b h k e = lex-rank-not 256 (a .time) (a .district .0) (b .time) (b .district .0) h k e
-
-pub rank-stamp : (a b : Stamp) → a .district .0 < 256 → b .district .0 < 256 → stampRank a < stampRank b → stampLt a b ≡ true
-unfolding stampLt
-rank-stamp a b h k e = rank-lex 256 (a .time) (a .district .0) (b .time) (b .district .0) h k e
-
-pub stamp-rank-inj : (a b : Stamp) → a .district .0 < 256 → b .district .0 < 256 → stampRank a ≡ stampRank b → a ≡ b
-stamp-rank-inj a b h k e = let q = rank-inj 256 (a .time) (a .district .0) (b .time) (b .district .0) h k e in stamp-ext a b (q .0) (q .1)
 
 pub ballot-rank : (a b : Ballot) → a .owner .0 < 256 → b .owner .0 < 256 → ballotLt a b ≡ true → ballotRank a < ballotRank b
 unfolding ballotLt
 ballot-rank a b h k e = lex-rank 256 (a .number) (a .owner .0) (b .number) (b .owner .0) h k e
-
-pub ballot-rank-not : (a b : Ballot) → a .owner .0 < 256 → b .owner .0 < 256 → ballotLt a b ≡ false → ballotRank b ≤ ballotRank a
-unfolding ballotLt
-ballot-rank-not a b h k e = lex-rank-not 256 (a .number) (a .owner .0) (b .number) (b .owner .0) h k e
-
-pub rank-ballot : (a b : Ballot) → a .owner .0 < 256 → b .owner .0 < 256 → ballotRank a < ballotRank b → ballotLt a b ≡ true
-unfolding ballotLt
-rank-ballot a b h k e = rank-lex 256 (a .number) (a .owner .0) (b .number) (b .owner .0) h k e
-
-pub ballot-rank-inj : (a b : Ballot) → a .owner .0 < 256 → b .owner .0 < 256 → ballotRank a ≡ ballotRank b → a ≡ b
-ballot-rank-inj a b h k e = let q = rank-inj 256 (a .number) (a .owner .0) (b .number) (b .owner .0) h k e in ballot-ext a b (q .0) (q .1)
 
 -- what a passed test says
 pub no-stamp-says : (s : Stamp) → isNoStamp s ≡ true → s ≡ noStamp
@@ -101,8 +72,10 @@ real-stamp-is s R = and-both (leb 1 (s .time)) (leb (s .time) mostTime) (le-leb 
 
 pub stamp-of-says : (d : District) (s : Stamp) → stampOf d s ≡ true → RealStamp s × (s .district ≡ d)
 unfolding stampOf
-stamp-of-says d s h =
-    (real-stamp-says s (and-left (realStamp s) (eqb (s .district .0) (d .0)) h), ap district (eqb-true (s .district .0) (d .0) (and-right (realStamp s) (eqb (s .district .0) (d .0)) h)))
+stamp-of-says d s h = (
+  real-stamp-says s (and-left (realStamp s) (eqb (s .district .0) (d .0)) h),
+  ap district (eqb-true (s .district .0) (d .0) (and-right (realStamp s) (eqb (s .district .0) (d .0)) h)),
+)
 
 pub stamp-of-is : (d : District) (s : Stamp) → RealStamp s → s .district .0 ≡ d .0 → stampOf d s ≡ true
 unfolding stampOf
@@ -126,8 +99,10 @@ real-ballot-is b R = and-both (leb 1 (b .number)) (leb (b .number) mostNumber) (
 
 pub ballot-of-says : (p : BoxNo) (b : Ballot) → ballotOf p b ≡ true → RealBallot b × (b .owner ≡ p)
 unfolding ballotOf
-ballot-of-says p b h =
-    (real-ballot-says b (and-left (realBallot b) (eqb (b .owner .0) (p .0)) h), ap boxNo (eqb-true (b .owner .0) (p .0) (and-right (realBallot b) (eqb (b .owner .0) (p .0)) h)))
+ballot-of-says p b h = (
+  real-ballot-says b (and-left (realBallot b) (eqb (b .owner .0) (p .0)) h),
+  ap boxNo (eqb-true (b .owner .0) (p .0) (and-right (realBallot b) (eqb (b .owner .0) (p .0)) h)),
+)
 
 pub ballot-of-is : (p : BoxNo) (b : Ballot) → RealBallot b → b .owner .0 ≡ p .0 → ballotOf p b ≡ true
 unfolding ballotOf

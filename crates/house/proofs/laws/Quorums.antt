@@ -7,8 +7,7 @@ use native.Mathlib.Omega.{arith}
 use lib.Count.{ones}
 use lib.Dec.{leb}
 use borrow.Author.Tests.{leb-true, lt-ltb}
-use Rattle.laws.specs.Choice.{pick-true}
-use Rattle.laws.proofs.laws.Choice.{or-other, not-of}
+use Rattle.laws.proofs.laws.Choice.{pick-true, or-other, not-of}
 use Rattle.laws.proofs.laws.Fold.{all-says}
 use Rattle.laws.specs.Digits.{part, withDigit}
 use Rattle.laws.proofs.laws.Digits.{part-digit, part-low, digit-zero, digit-same, digit-other, flags, flags-length, flags-at, flags-ones}
@@ -45,7 +44,15 @@ pub record Common (P : Plan) (d : District) (a b : ℕ) : Type 0 where
 pub quorums-meet : (P : Plan) (d : District) (a b : ℕ) → quorumIn P a d ≡ true → quorumIn P b d ≡ true → Common P d a b
 unfolding quorumIn quorumOf marksIn hasMark
 quorums-meet P d a b ha hb =
-    let S = majorities-meet (sizeOf P) (flags (sizeOf P) (cut a)) (flags (sizeOf P) (cut b)) (flags-length (sizeOf P) (cut a)) (flags-length (sizeOf P) (cut b)) (enough a ha) (enough b hb) in
+    let S =
+    majorities-meet
+    (sizeOf P)
+    (flags (sizeOf P) (cut a))
+    (flags (sizeOf P) (cut b))
+    (flags-length (sizeOf P) (cut a))
+    (flags-length (sizeOf P) (cut b))
+    (enough a ha)
+    (enough b hb) in
     let l = low S in
     record {
       box = boxNo (d .0 * sizeOf P + S .place);
@@ -58,13 +65,21 @@ quorums-meet P d a b ha hb =
     cut m = part m (d .0 * sizeOf P) (sizeOf P)
 
     enough : (m : ℕ) → leb (majority (sizeOf P)) (ones (cut m)) ≡ true → majority (sizeOf P) ≤ Rattle.laws.proofs.laws.Majority.count (flags (sizeOf P) (cut m))
-    enough m h = let e = flags-ones (sizeOf P) (cut m) (part-low m (d .0 * sizeOf P) (sizeOf P)) in let k = leb-true (majority (sizeOf P)) (ones (cut m)) h in omega arith
+    enough m h =
+        let e = flags-ones (sizeOf P) (cut m) (part-low m (d .0 * sizeOf P) (sizeOf P)) in
+        let k = leb-true (majority (sizeOf P)) (ones (cut m)) h in
+        omega arith
 
     low : (S : Shared (flags (sizeOf P) (cut a)) (flags (sizeOf P) (cut b))) → S .place < sizeOf P
     low S = let e = flags-length (sizeOf P) (cut a) in let i = S .inside in omega arith
 
 -- a quorum in each named district
-pub quorum-each-says : (P : Plan) (j m : ℕ) → quorumEach P j m ≡ true → (d : ℕ) → d < P .districts → names P j (district d) ≡ true → quorumIn P m (district d) ≡ true
+pub quorum-each-says : (P : Plan) (j m : ℕ) → quorumEach P j m ≡ true → (d : ℕ) → d < P .districts → names P j (district d) ≡ true
+    → quorumIn P m (district d) ≡ true
 unfolding quorumEach quorumBelow
 quorum-each-says P j m h d l n =
-    or-other (not (names P j (district d))) (quorumIn P m (district d)) (all-says (λ e. not (names P j (district e)) || quorumIn P m (district e)) (P .districts) h d l) (not-of n)
+    or-other
+    (not (names P j (district d)))
+    (quorumIn P m (district d))
+    (all-says (λ e. not (names P j (district e)) || quorumIn P m (district e)) (P .districts) h d l)
+    (not-of n)

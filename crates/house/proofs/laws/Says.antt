@@ -7,9 +7,8 @@ use native.Mathlib.Nat.{div-lt-iff-lt-mul, div-eq-of-lt-le, div-mul-le-self, lt-
 use native.Mathlib.Omega.{arith}
 use lib.ListN.{getD}
 use lib.Dec.{leb, ltb, eqb}
-use borrow.Author.Tests.{leb-true, ltb-true, ltb-false, eqb-true, lt-ltb, le-ltb, eq-eqb}
-use Rattle.laws.specs.Choice.{pick-true, pick-false, and-left, and-right, and-both}
-use Rattle.laws.proofs.laws.Choice.{look, never, or-cases, not-so}
+use borrow.Author.Tests.{leb-true, ltb-true, ltb-false, eqb-true, lt-ltb, eq-eqb}
+use Rattle.laws.proofs.laws.Choice.{pick-true, pick-false, and-left, and-right, and-both, look, never, or-cases, not-so}
 use Rattle.laws.proofs.laws.Fold.{all-says}
 use Rattle.laws.specs.Digits.{digit}
 use Rattle.laws.proofs.laws.Digits.{digit-zero, digit-beyond}
@@ -20,7 +19,8 @@ use Rattle.house.specs.declared.District.{District}
 use Rattle.house.specs.declared.BoxNo.{BoxNo}
 use Rattle.house.specs.declared.Ballot.{Ballot}
 use Rattle.house.specs.declared.Stamp.{Stamp}
-use Rattle.house.specs.Plan.{sizeOf, boxesOf, homeOf, isBox, isOffice, isJob, sameHome, maskOf, names, ballotIn, noneOrIn, stampNamed, maskSound, countsSound, masksSound, planSound}
+use Rattle.house.specs.Plan.{sizeOf, boxesOf, homeOf, isBox, isJob, sameHome, maskOf, names, ballotIn, noneOrIn, stampNamed, maskSound, countsSound}
+use Rattle.house.specs.Plan.{masksSound, planSound}
 use Rattle.house.specs.declared.Plan.{Plan}
 
 pub size-real : (P : Plan) → 1 ≤ sizeOf P
@@ -45,7 +45,9 @@ plan-says P h =
       some-job = leb-true 1 (P .jobs) (and-left (leb 1 (P .jobs)) (leb (P .jobs) mostJobs) n);
       jobs-most = leb-true (P .jobs) mostJobs (and-right (leb 1 (P .jobs)) (leb (P .jobs) mostJobs) n);
       mask-real = λ j l. leb-true 1 (getD (P .masks) j 0) (and-left (leb 1 (getD (P .masks) j 0)) (ltb (getD (P .masks) j 0) (2 ^ P .districts)) (m j l));
-      mask-fits = λ j l. ltb-true (getD (P .masks) j 0) (2 ^ P .districts) (and-right (leb 1 (getD (P .masks) j 0)) (ltb (getD (P .masks) j 0) (2 ^ P .districts)) (m j l));
+      mask-fits =
+          λ j l.
+          ltb-true (getD (P .masks) j 0) (2 ^ P .districts) (and-right (leb 1 (getD (P .masks) j 0)) (ltb (getD (P .masks) j 0) (2 ^ P .districts)) (m j l));
     }
   where
     counts : countsSound P ≡ true
@@ -108,11 +110,6 @@ pub same-home-is : (P : Plan) (p q : BoxNo) → homeOf P p ≡ homeOf P q → sa
 unfolding sameHome
 same-home-is P p q e = eq-eqb (homeOf P p .0) (homeOf P q .0) (ap (λ (d : District). d .0) e)
 
--- the office is no box
-pub office-no-box : (P : Plan) (p : BoxNo) → isOffice P p ≡ true → isBox P p ≡ false
-unfolding isOffice isBox
-office-no-box P p h = let e = eqb-true (p .0) (boxesOf P) h in le-ltb (p .0) (boxesOf P) (omega arith)
-
 -- what names a district is a job, and what is named is a district
 pub names-job : (P : Plan) (j : ℕ) (d : District) → names P j d ≡ true → j < P .jobs
 unfolding names maskOf isJob
@@ -156,7 +153,11 @@ pub ballot-in-is : (P : Plan) (d : District) (b : Ballot) → BallotIn P d b →
 unfolding ballotIn
 ballot-in-is P d b B =
     and-both (realBallot b) (isBox P (b .owner) && eqb (homeOf P (b .owner) .0) (d .0)) (real-ballot-is b (B .real))
-    (and-both (isBox P (b .owner)) (eqb (homeOf P (b .owner) .0) (d .0)) (box-is P (b .owner) (B .owner-box)) (eq-eqb (homeOf P (b .owner) .0) (d .0) (ap (λ (e : District). e .0) (B .here))))
+    (and-both
+    (isBox P (b .owner))
+    (eqb (homeOf P (b .owner) .0) (d .0))
+    (box-is P (b .owner) (B .owner-box))
+    (eq-eqb (homeOf P (b .owner) .0) (d .0) (ap (λ (e : District). e .0) (B .here))))
 
 pub none-or-in-says : (P : Plan) (d : District) (b : Ballot) → noneOrIn P d b ≡ true → (b ≡ noBallot) ⊎ BallotIn P d b
 unfolding noneOrIn

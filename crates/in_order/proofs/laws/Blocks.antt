@@ -30,7 +30,8 @@ use Rattle.boxes.specs.declared.BoxState.{BoxState}
 use Rattle.world.specs.World.{World, Order, new, step, run}
 use Rattle.in_order.proofs.laws.Notions.{the}
 use Rattle.in_order.proofs.laws.Sends.{in-each, each-in}
-use Rattle.in_order.proofs.laws.Moves.{Move, m-post, m-retry, m-stand, m-cut, m-propose, m-again, m-keep, m-accept, m-mark, m-commit, m-deliver, m-join, m-hold, m-merge, m-state, m-lead, commits, sent}
+use Rattle.in_order.proofs.laws.Moves.{Move, m-post, m-retry, m-stand, m-cut, m-propose, m-again, m-keep, m-accept, m-mark, m-commit, m-deliver, m-join}
+use Rattle.in_order.proofs.laws.Moves.{m-hold, m-merge, m-state, m-lead, commits, sent}
 use Rattle.in_order.proofs.laws.View.{View, same, moved, view}
 
 -- a DELIVER of job k at place i
@@ -45,7 +46,8 @@ pub record Ahead (l : List Rec) (i : ℕ) (r : Rec) : Type 0 where
 
 pub record Whole (P : Plan) (l : List Rec) : Type 0 where
   -- beside a DELIVER stand those to all boxes of its sender's district
-  pub complete : {i : ℕ} {from to : BoxNo} {k : ℕ} {y : Handout} → Goes l i from to k y → (q : BoxNo) → q .0 < boxesOf P → homeOf P q ≡ homeOf P from → In (deliver from q k y) l
+  pub complete : {i : ℕ} {from to : BoxNo} {k : ℕ} {y : Handout} → Goes l i from to k y → (q : BoxNo) → q .0 < boxesOf P → homeOf P q ≡ homeOf P from
+      → In (deliver from q k y) l
   -- and all of them before a DELIVER of another job that stands behind one
   pub ordered : {i j : ℕ} {from to from′ to′ : BoxNo} {k m : ℕ} {y z : Handout} → j < i → Goes l j from to k y → Goes l i from′ to′ m z → k ≢ m
       → (q : BoxNo) → q .0 < boxesOf P → homeOf P q ≡ homeOf P from → Ahead l i (deliver from q k y)
@@ -71,14 +73,17 @@ whole-both {P} {l} {k} A B =
       ordered = λ {i} {j} o h g n q b e. behind i j o (at-side l k j (h .there)) (at-side l k i (g .there)) n q b e;
     }
   where
-    full : (i : ℕ) {from to : BoxNo} {c : ℕ} {y : Handout} → Side l k i (deliver from to c y) → (q : BoxNo) → q .0 < boxesOf P → homeOf P q ≡ homeOf P from → In (deliver from q c y) (l ++ k)
+    full : (i : ℕ) {from to : BoxNo} {c : ℕ} {y : Handout} → Side l k i (deliver from to c y) → (q : BoxNo) → q .0 < boxesOf P → homeOf P q ≡ homeOf P from
+        → In (deliver from q c y) (l ++ k)
     full i (before h) q b e = in-left l k (A .complete (record { there = h }) q b e)
     full i (after j x h) q b e = in-right l k (B .complete (record { there = h }) q b e)
 
-    behind : (i j : ℕ) {from to from′ to′ : BoxNo} {c m : ℕ} {y z : Handout} → j < i → Side l k j (deliver from to c y) → Side l k i (deliver from′ to′ m z) → c ≢ m
+    behind : (i j : ℕ) {from to from′ to′ : BoxNo} {c m : ℕ} {y z : Handout} → j < i → Side l k j (deliver from to c y) → Side l k i (deliver from′ to′ m z)
+        → c ≢ m
         → (q : BoxNo) → q .0 < boxesOf P → homeOf P q ≡ homeOf P from → Ahead (l ++ k) i (deliver from q c y)
     behind i j o (before h) (before g) n q b e =
-        let r = A .ordered o (record { there = h }) (record { there = g }) n q b e in record { place = r .place; before = r .before; there = at-left l k (r .place) (r .there) }
+        let r = A .ordered o (record { there = h }) (record { there = g }) n q b e in
+        record { place = r .place; before = r .before; there = at-left l k (r .place) (r .there) }
     behind i j o (before h) (after d x g) n q b e =
         let r = A .complete (record { there = h }) q b e in
         let s = at-lt l (r .place) (r .there) in
@@ -106,7 +111,8 @@ module _ (P : Plan) (x : BoxState) (j : ℕ) where
   whole-job : Whole P (delivers P x j)
   whole-job =
       record {
-        complete = λ {i} {from} {to} {k} {y} h q b e. let z = same-job i from to k y (h .there) in rw (z .0, z .1, z .2) (to-each q b (e ∙ ap (homeOf P) (z .0)));
+        complete =
+            λ {i} {from} {to} {k} {y} h q b e. let z = same-job i from to k y (h .there) in rw (z .0, z .1, z .2) (to-each q b (e ∙ ap (homeOf P) (z .0)));
         ordered = λ {i} {j = i′} {from} {to} {from′} {to′} {k} {m} {y} {z} o h g n q b e.
             absurd (n (same-job i′ from to k y (h .there) .1 ∙ sym (same-job i from′ to′ m z (g .there) .1)));
       }

@@ -4,8 +4,7 @@ use Prim.Native.Nat.{_≤_, _<_}
 use mathlib.Core.Bool.{true}
 use mathlib.Core.Path.{_≡_, sym, ap, _∙_, subst}
 use native.Mathlib.Omega.{arith}
-use Rattle.laws.proofs.laws.Choice.{never}
-use Rattle.laws.specs.Choice.{and-left, and-right}
+use Rattle.laws.proofs.laws.Choice.{never, and-left, and-right}
 use Rattle.house.specs.Pairs.{district}
 use Rattle.house.proofs.laws.Orders.{ballotOrder}
 use Rattle.house.specs.declared.Ballot.{Ballot}
@@ -28,7 +27,8 @@ use Rattle.in_order.proofs.laws.Moves.{Acking, Move, marks}
 use Rattle.in_order.proofs.laws.StepVolatile.{mark-v2}
 use Rattle.in_order.proofs.laws.Facts.{leads-own}
 
-module _ (P : Plan) (w : World) (p : BoxNo) (known : p .0 < boxesOf P) (m : Move P w p) (I : Inv P w) (a : Acking P w p) (full : enough P (marks P w p a) (a .j) ≡ true) where
+module _ (P : Plan) (w : World) (p : BoxNo) (known : p .0 < boxesOf P) (m : Move P w p) (I : Inv P w) (a : Acking P w p)
+    (full : enough P (marks P w p a) (a .j) ≡ true) where
   pub own-mark : Ack P (w .post) p (a .j) (keptBallot (the w p) (a .j))
   unfolding enough marksAt keptBallot
   own-mark =
@@ -54,7 +54,15 @@ module _ (P : Plan) (w : World) (p : BoxNo) (known : p .0 < boxesOf P) (m : Move
         quorum =
             record {
               marks = marksAt (marks P w p a) (a .j);
-              enough = quorum-each-says P (a .j) (marksAt (marks P w p a) (a .j)) (and-right (hasMark (marksAt (marks P w p a) (a .j)) (ownOf (marks P w p a))) _ full) (d .0) l n;
+              enough =
+                  quorum-each-says
+                  P
+                  (a .j)
+                  (marksAt (marks P w p a) (a .j))
+                  (and-right (hasMark (marksAt (marks P w p a) (a .j)) (ownOf (marks P w p a))) _ full)
+                  (d .0)
+                  l
+                  n;
               each = λ q _ t. mark-v2 P w p known m I a (a .j) q t;
             };
       }
@@ -62,11 +70,13 @@ module _ (P : Plan) (w : World) (p : BoxNo) (known : p .0 < boxesOf P) (m : Move
   pub certificate : Cert P (w .post) (a .j) (keptBallot (the w p) (a .j)) (latestKept P (the w p) (a .j) (P .districts))
   certificate = go (latest-is P (the w p) (a .j) (P .districts))
     where
-      go : Latest P (the w p) (a .j) (P .districts) (latestKept P (the w p) (a .j) (P .districts)) → Cert P (w .post) (a .j) (keptBallot (the w p) (a .j)) (latestKept P (the w p) (a .j) (P .districts))
+      go : Latest P (the w p) (a .j) (P .districts) (latestKept P (the w p) (a .j) (P .districts))
+          → Cert P (w .post) (a .j) (keptBallot (the w p) (a .j)) (latestKept P (the w p) (a .j) (P .districts))
       go (nowhere f e) = never (a .named) (f (homeIn P (the w p) .0) (names-district P (a .j) (homeIn P (the w p)) (I .forms .plan) (a .named)))
       go (somewhere d l n e) = record { each = part; top = district d; named = n; attained = rw e (kept-acc (district d) n) }
 
-  pub commit-final : Final P (w .post) (a .j) (homeIn P (the w p)) (the w p .core .cballot) (keptStamp (the w p) (a .j) (homeIn P (the w p))) (latestKept P (the w p) (a .j) (P .districts))
+  pub commit-final : Final P (w .post) (a .j) (homeIn P (the w p)) (the w p .core .cballot) (keptStamp (the w p) (a .j) (homeIn P (the w p)))
+      (latestKept P (the w p) (a .j) (P .districts))
   commit-final =
       record {
         vector = keptBallot (the w p) (a .j);

@@ -5,7 +5,7 @@ use mathlib.Core.Logic.{_≢_}
 use mathlib.Core.Path.{_≡_}
 use Rattle.laws.proofs.laws.Choice.{never}
 use Rattle.laws.specs.Lex.{Order, Three, less, same, more}
-use Rattle.laws.proofs.laws.Lex.{lt-asym, le-trans, lt-le, le-lt}
+use Rattle.laws.proofs.laws.Lex.{lt-asym, le-trans, le-lt}
 use Rattle.house.specs.Pairs.{stampLt, ballotLt}
 use Rattle.house.specs.declared.Stamp.{Stamp}
 use Rattle.house.specs.declared.Ballot.{Ballot}
@@ -56,9 +56,6 @@ module _ {A : Type 0} {lt eq : A → A → Bool} {none : A} (O : Order A lt eq n
 
   pub le-le : {a b c : A} → Le lt a b → Le lt b c → Le lt a c
   le-le {a} {b} {c} h k = record { says = le-trans O a b c (h .says) (k .says) }
-
-  pub lt-then-le : {a b c : A} → Lt lt a b → Le lt b c → Lt lt a c
-  lt-then-le {a} {b} {c} h k = record { says = lt-le O a b c (h .says) (k .says) }
 
   pub le-then-lt : {a b c : A} → Le lt a b → Lt lt b c → Lt lt a c
   le-then-lt {a} {b} {c} h k = record { says = le-lt O a b c (h .says) (k .says) }

@@ -9,7 +9,7 @@ use native.Mathlib.Decide.{ℕ-discrete}
 use Rattle.laws.proofs.laws.Induction.{strong}
 use Rattle.laws.proofs.laws.Lex.{Below, first, second, lex-below}
 use Rattle.house.specs.Pairs.{ballotLt}
-use Rattle.house.proofs.laws.Orders.{ballotOrder, ballotRank, ballot-rank}
+use Rattle.house.proofs.laws.Orders.{ballotRank, ballot-rank}
 use Rattle.house.specs.declared.Stamp.{Stamp}
 use Rattle.house.specs.declared.Ballot.{Ballot}
 use Rattle.house.specs.declared.BoxNo.{BoxNo}
@@ -19,9 +19,10 @@ use Rattle.house.proofs.laws.Says.{boxes-most, names-job}
 use Rattle.house.specs.declared.Plan.{Plan}
 use Rattle.records.specs.Rec.{Rec, Ballotpaper, NewState}
 use Rattle.world.specs.World.{World}
-use Rattle.in_order.proofs.laws.Compare.{Lower, Upto, Within, strict, equal, within}
+use Rattle.in_order.proofs.laws.Compare.{Lower}
 use Rattle.in_order.proofs.laws.Quorate.{meets}
-use Rattle.in_order.proofs.laws.Notions.{rowIn, Acc, Ack, Del, Voted, News, NewsOf, Joined, follows, heads, Lam, stated, asked, Timed, Acked, Voter, Merge}
+use Rattle.in_order.proofs.laws.Notions.{rowIn, Acc, Ack, Del, Voted, News, NewsOf, Joined, follows, heads, Lam, stated, asked, Timed, Acked, Voter}
+use Rattle.in_order.proofs.laws.Notions.{Merge}
 use Rattle.in_order.proofs.laws.Inv.{Inv}
 
 -- ---- numbers
@@ -34,14 +35,6 @@ lower-real {a} {b} r h = go (lex-below (a .number) (a .owner .0) (b .number) (b 
     go : Below (a .number) (a .owner .0) (b .number) (b .owner .0) → 1 ≤ b .number
     go (first l) = omega arith
     go (second e l) = omega arith
-
--- what is not below a real ballot is real
-pub upto-real : {a b : Ballot} → 1 ≤ a .number → Upto a b → 1 ≤ b .number
-upto-real {a} {b} r h = go (within ballotOrder h)
-  where
-    go : Within ballotLt a b → 1 ≤ b .number
-    go (strict l) = lower-real r l
-    go (equal e) = subst (λ (c : Ballot). 1 ≤ c .number) e r
 
 -- a later clock is not below either
 pub timed-up : {l : List Rec} {m : ℕ} {b : Ballot} {k k′ : ℕ} → Timed l m b k → k ≤ k′ → Timed l m b k′
@@ -78,7 +71,8 @@ module _ {P : Plan} {w : World} (I : Inv P w) where
   news-real n = subst (λ (c : Ballot). 1 ≤ c .number) (n .ballot) (I .forms .news (n .news) .real)
 
   -- what holds of a NEW_STATE if it holds of all with lower ballots holds of all
-  pub by-ballot : (Q : NewState → Type 0) → ((y : NewState) → News (w .post) y → ((k : NewState) → News (w .post) k → Lower (k .ballot) (y .ballot) → Q k) → Q y)
+  pub by-ballot : (Q : NewState → Type 0)
+      → ((y : NewState) → News (w .post) y → ((k : NewState) → News (w .post) k → Lower (k .ballot) (y .ballot) → Q k) → Q y)
       → (y : NewState) → News (w .post) y → Q y
   by-ballot Q f y n = strong (λ r. (k : NewState) → News (w .post) k → ballotRank (k .ballot) ≡ r → Q k) step (ballotRank (y .ballot)) y n refl
     where
@@ -115,7 +109,8 @@ module _ {P : Plan} {w : World} (I : Inv P w) where
 
   -- lam(b,m) has one value
   pub lam-one : {b : Ballot} {m : ℕ} {s t : Stamp} → Lam P (w .post) b m s → Lam P (w .post) b m t → s ≡ t
-  lam-one {m = m} (stated y n e l h q) (stated y′ n′ e′ l′ h′ q′) = sym q ∙ ap (λ (v : NewState). rowIn (v .table) m .local) (I .ballots .i1b n n′ (e ∙ sym e′)) ∙ q′
+  lam-one {m = m} (stated y n e l h q) (stated y′ n′ e′ l′ h′ q′) =
+      sym q ∙ ap (λ (v : NewState). rowIn (v .table) m .local) (I .ballots .i1b n n′ (e ∙ sym e′)) ∙ q′
   lam-one (stated y n e l h q) (asked a) = sym q ∙ I .locals .l0 a n e h
   lam-one (asked a) (stated y n e l h q) = sym (I .locals .l0 a n e h) ∙ q
   lam-one (asked a) (asked c) = I .locals .i1a a c
@@ -137,7 +132,8 @@ module _ {P : Plan} {w : World} (I : Inv P w) where
   -- if it is real it is of the same district
   pub top-home : {y : NewState} (M : Merge P (w .post) y) → 1 ≤ M .top .number → homeOf P (M .top .owner) ≡ homeOf P (y .ballot .owner)
   top-home {y} M r =
-      subst (λ (b : Ballot). 1 ≤ b .number → homeOf P (b .owner) ≡ homeOf P (M .highest)) (M .is-top) (I .forms .vote (M .voter .voted) .chome) r ∙ voter-home (M .voter)
+      subst (λ (b : Ballot). 1 ≤ b .number → homeOf P (b .owner) ≡ homeOf P (M .highest)) (M .is-top) (I .forms .vote (M .voter .voted) .chome) r
+      ∙ voter-home (M .voter)
 
   -- and has its NEW_STATE (B3v)
   pub top-news : {y : NewState} (M : Merge P (w .post) y) → 1 ≤ M .top .number → NewsOf (w .post) (M .top)

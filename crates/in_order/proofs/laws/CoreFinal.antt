@@ -48,16 +48,22 @@ final-now {os = os} S = record { first = os; rest = []; split = sym (append-nil 
 -- a final stamp stays one, whatever orders follow
 pub final-later : {P : Plan} {os : List Order} {m : ℕ} {s : Stamp} → FinalStamp P os m s → (later : List Order) → FinalStamp P (os ++ later) m s
 final-later F later =
-    record { first = F .first; rest = F .rest ++ later; split = ap (λ (l : List Order). l ++ later) (F .split) ∙ append-assoc (F .first) (F .rest) later; shows = F .shows }
+    record
+    { first = F .first; rest = F .rest ++ later; split = ap (λ (l : List Order). l ++ later) (F .split) ∙ append-assoc (F .first) (F .rest) later; shows = F .shows }
 
 -- every final stamp of a run has a certificate in its last world
-pub final-cert : {P : Plan} {os : List Order} {m : ℕ} {s : Stamp} → ((first : List Order) → Inv P (after P first)) → FinalStamp P os m s → Certified P (after P os .post) m s
+pub final-cert : {P : Plan} {os : List Order} {m : ℕ} {s : Stamp} → ((first : List Order) → Inv P (after P first)) → FinalStamp P os m s
+    → Certified P (after P os .post) m s
 final-cert {P} {os} {m} {s} I F =
     let c = shows-cert (I (F .first)) (F .shows) in
-    subst (λ (l : List Order). Certified P (after P l .post) m s) (sym (F .split)) (record { vector = c .vector; cert = cert-up (then-grows P (new P) (F .first) (F .rest)) (c .cert) })
+    subst
+    (λ (l : List Order). Certified P (after P l .post) m s)
+    (sym (F .split))
+    (record { vector = c .vector; cert = cert-up (then-grows P (new P) (F .first) (F .rest)) (c .cert) })
 
 -- D3s, in a world whose post begins with l: what stands before a place of l stands in l, and the whole block of its job with it
-pub handed-in : {P : Plan} {w : World} {l : List Rec} {i m k : ℕ} {p : BoxNo} {b : Ballot} {s t : Stamp} → Inv P w → Begins l (w .post) → Whole P l → HandsOut l i p m b s
+pub handed-in : {P : Plan} {w : World} {l : List Rec} {i m k : ℕ} {p : BoxNo} {b : Ballot} {s t : Stamp} → Inv P w → Begins l (w .post) → Whole P l
+    → HandsOut l i p m b s
     → names P k (homeOf P p) ≡ true → Certified P (w .post) k t → stampLt t s ≡ true → HandedBefore P l i p k b t
 handed-in {P} {w} {l} {i} {m} {k} {p} {b} {s} {t} I B W H n C o =
     record {

@@ -15,7 +15,8 @@ use Rattle.house.specs.Pairs.{boxNo}
 use Rattle.house.specs.declared.Ballot.{Ballot}
 use Rattle.house.specs.declared.BoxNo.{BoxNo}
 use Rattle.house.specs.declared.Plan.{Plan}
-use Rattle.records.specs.Rec.{Rec, Proposal, Handout, Ballotpaper, NewState, multicast, accept, accept-ack, deliver, newleader, newleader-ack, new-state, newstate-ack, unknown, carried, meaning}
+use Rattle.records.specs.Rec.{Rec, Proposal, Handout, Ballotpaper, NewState, multicast, accept, accept-ack, deliver, newleader, newleader-ack, new-state}
+use Rattle.records.specs.Rec.{newstate-ack, unknown, carried, meaning}
 use Rattle.boxes.specs.Box.{fresh, listedAt, noListed}
 use Rattle.boxes.specs.Out.{Out, refused, does, guard}
 use Rattle.boxes.specs.Ready.{Handing, flagged, handNext, handTurns, handOut}
@@ -36,7 +37,8 @@ use Rattle.boxes.proofs.laws.Answers.{under-or}
 use Rattle.boxes.specs.declared.BoxState.{BoxState}
 use Rattle.boxes.specs.declared.Delivery.{Delivery}
 use Rattle.boxes.specs.declared.Delivery.the-variants.{Nothing}
-use Rattle.world.specs.World.{World, Order, post, stand as standing, retry as retrying, cut as cutting, carry, boxAt, recordAt, whose, acts, given, finish, step, run}
+use Rattle.world.specs.World.{World, Order, post, stand as standing, retry as retrying, cut as cutting, carry, boxAt, recordAt, whose, acts, given, finish}
+use Rattle.world.specs.World.{step, run}
 use Rattle.in_order.specs.Words.{SameList, Delivered, none, one, ListBegins}
 
 -- an outcome that does something delivers fairly
@@ -187,14 +189,16 @@ pub delivered-begins : {x y : BoxState} {d : Delivery} → Delivered x y d → L
 unfolding listedAt
 delivered-begins (none e S) = let c = S .count in record { longer = omega arith; same = λ i l. rw (S .list) }
 delivered-begins {x} (one j s e c q) =
-    record { longer = omega arith; same = λ i l. rw q (getD-set-other (x .core .list) (x .core .count) i (record { job = j; stamp = s }) noListed (omega arith)) }
+    record
+    { longer = omega arith; same = λ i l. rw q (getD-set-other (x .core .list) (x .core .count) i (record { job = j; stamp = s }) noListed (omega arith)) }
 
 -- an order only appends to a list
 pub step-appends : (P : Plan) (w : World) (o : Order) (p : ℕ) → p < length (w .boxes) → ListBegins (boxAt w p) (boxAt (step P w o) p)
 unfolding step
 step-appends P w o p l = go (given P w o) (fair-given P w o)
   where
-    set-box : (x : BoxState) → ListBegins (boxAt w (whose w o)) x → Dec (p ≡ whose w o) → ListBegins (boxAt w p) (getD (set (w .boxes) (whose w o) x) p (fresh (boxNo 0)))
+    set-box : (x : BoxState) → ListBegins (boxAt w (whose w o)) x → Dec (p ≡ whose w o)
+        → ListBegins (boxAt w p) (getD (set (w .boxes) (whose w o) x) p (fresh (boxNo 0)))
     set-box x B (yes e) =
         subst (λ (q : ℕ). ListBegins (boxAt w q) (getD (set (w .boxes) (whose w o) x) q (fresh (boxNo 0)))) (sym e)
         (rw (getD-set-same (w .boxes) (whose w o) x (fresh (boxNo 0)) (omega arith)) B)

@@ -20,7 +20,8 @@ use Rattle.records.specs.Rules.{valid}
 use Rattle.records.proofs.laws.Obeys.{valid-rules}
 use Rattle.boxes.specs.Box.{isRecovering, listedAt}
 use Rattle.world.specs.World.{World}
-use Rattle.in_order.proofs.laws.Compare.{Lower, Upto, Sooner, Within, strict, equal, within, Compared, under, level, over, compare, eq-le, lt-lt, lt-to-le, lt-self, le-le, le-ne, le-then-lt}
+use Rattle.in_order.proofs.laws.Compare.{Lower, Upto, Sooner, Within, strict, equal, within, Compared, under, level, over, compare, eq-le, lt-lt}
+use Rattle.in_order.proofs.laws.Compare.{lt-to-le, lt-self, le-le, le-ne, le-then-lt}
 use Rattle.in_order.proofs.laws.Quorate.{Quorate, meets}
 use Rattle.in_order.proofs.laws.Notions.{the, rowIn, Del, DelAt, News, NewsOf, Joined, Lam, asked, Part, Cert, Final, Merge}
 use Rattle.in_order.proofs.laws.Inv.{Inv, State, Handed, later, earlier, Before, Listing}
@@ -75,7 +76,12 @@ module _ {P : Plan} {w : World} (I : Inv P w) where
 
     -- the induction step of I5b
     i5b-step : (y : NewState) → News (w .post) y → ((k : NewState) → News (w .post) k → Lower (k .ballot) (y .ballot) → Recalls P (w .post) b t k)
-        → homeOf P (y .ballot .owner) ≡ homeOf P (b .owner) → Lower b (y .ballot) → (k : ℕ) (r : Stamp) → Lam P (w .post) (y .ballot) k r → Sooner r t → Lam P (w .post) b k r
+        → homeOf P (y .ballot .owner) ≡ homeOf P (b .owner)
+        → Lower b (y .ballot)
+        → (k : ℕ) (r : Stamp)
+        → Lam P (w .post) (y .ballot) k r
+        → Sooner r t
+        → Lam P (w .post) b k r
     i5b-step y n ih h l k r a c = go (known I n a)
       where
         M : Merge P (w .post) y
@@ -98,14 +104,16 @@ module _ {P : Plan} {w : World} (I : Inv P w) where
             absurd (omega arith)
 
     -- I5b: a local stamp of a higher ballot that is below the DELIVER's stamp is that of its ballot
-    pub i5b : {b′ : Ballot} {k : ℕ} {r : Stamp} → NewsOf (w .post) b′ → homeOf P (b′ .owner) ≡ homeOf P (b .owner) → Lower b b′ → Lam P (w .post) b′ k r → Sooner r t → Lam P (w .post) b k r
+    pub i5b : {b′ : Ballot} {k : ℕ} {r : Stamp} → NewsOf (w .post) b′ → homeOf P (b′ .owner) ≡ homeOf P (b .owner) → Lower b b′ → Lam P (w .post) b′ k r
+        → Sooner r t → Lam P (w .post) b k r
     i5b {k = k} {r = r} n h l a c =
         by-ballot I (Recalls P (w .post) b t) (λ y o ih. record { says = i5b-step y o ih }) (n .state) (n .news) .says
         (ap (λ (x : Ballot). homeOf P (x .owner)) (n .ballot) ∙ h) (subst (λ (x : Ballot). Lower b x) (sym (n .ballot)) l)
         k r (subst (λ (x : Ballot). Lam P (w .post) x k r) (sym (n .ballot)) a) c
 
     -- the local stamp of a certificate whose stamp is below the DELIVER's is that of the DELIVER's ballot
-    lam-here : {k : ℕ} {f : District → Ballot} {r : Stamp} → names P k (homeOf P (b .owner)) ≡ true → Cert P (w .post) k f r → Sooner r t → Under P (w .post) b k t
+    lam-here : {k : ℕ} {f : District → Ballot} {r : Stamp} → names P k (homeOf P (b .owner)) ≡ true → Cert P (w .post) k f r → Sooner r t
+        → Under P (w .post) b k t
     lam-here {k} {f} {r} a c l = record { stamp = p .stamp; below = under-t; lam = go (compare ballotOrder (f (homeOf P (b .owner))) b) }
       where
         p : Part P (w .post) k f (homeOf P (b .owner)) r
@@ -140,7 +148,8 @@ module _ {P : Plan} {w : World} (I : Inv P w) where
   -- ---- lists and tables
 
   -- a job handed out in a ballot below that of a NEW_STATE of the district is accepted in it
-  pub handed-kept : {m : ℕ} {b : Ballot} {s t : Stamp} {y : NewState} → Del (w .post) m b s t → News (w .post) y → homeOf P (y .ballot .owner) ≡ homeOf P (b .owner)
+  pub handed-kept : {m : ℕ} {b : Ballot} {s t : Stamp} {y : NewState} → Del (w .post) m b s t → News (w .post) y
+      → homeOf P (y .ballot .owner) ≡ homeOf P (b .owner)
       → Lower b (y .ballot) → 2 ≤ rowIn (y .table) m .phase
   handed-kept {b = b} d n h l =
       let F = I .acks .i3d d in

@@ -1,6 +1,6 @@
 -- One job has one stamp, two jobs have two (docs/PROOF.md, 'Inside one world': G1, J2, J4L, I4a, I4b).
 -- Local stamps are compared inside one ballot, where I2n brings those of lower ballots.
-use Prim.Native.Nat.{ℕ, _≤_, _<_}
+use Prim.Native.Nat.{ℕ, _<_}
 use mathlib.Core.Bool.{true}
 use mathlib.Core.List.{List}
 use mathlib.Core.Logic.{_≢_}
@@ -11,18 +11,18 @@ use Rattle.house.specs.Pairs.{ballotLt}
 use Rattle.house.proofs.laws.Orders.{ballotOrder, stampOrder}
 use Rattle.house.specs.declared.Stamp.{Stamp}
 use Rattle.house.specs.declared.Ballot.{Ballot}
-use Rattle.house.specs.declared.BoxNo.{BoxNo}
 use Rattle.house.specs.declared.District.{District}
-use Rattle.house.specs.Plan.{boxesOf, homeOf, names}
+use Rattle.house.specs.Plan.{homeOf, names}
 use Rattle.house.proofs.laws.Says.{names-job}
 use Rattle.house.specs.declared.Plan.{Plan}
 use Rattle.records.specs.Rec.{Rec, NewState}
 use Rattle.world.specs.World.{World}
-use Rattle.in_order.proofs.laws.Compare.{Lower, Upto, Until, Within, strict, equal, within, Compared, under, level, over, compare, eq-le, lt-to-le, le-both}
+use Rattle.in_order.proofs.laws.Compare.{Lower, Upto, Until, Within, strict, equal, within, Compared, under, level, over, compare, eq-le, lt-to-le}
+use Rattle.in_order.proofs.laws.Compare.{le-both}
 use Rattle.in_order.proofs.laws.Quorate.{Quorate, meets}
-use Rattle.in_order.proofs.laws.Notions.{the, rowIn, Acc, Ack, Del, News, NewsOf, Lam, stated, asked, Part, Cert}
+use Rattle.in_order.proofs.laws.Notions.{rowIn, Acc, Ack, Del, News, NewsOf, Lam, stated, asked, Part, Cert}
 use Rattle.in_order.proofs.laws.Inv.{Inv}
-use Rattle.in_order.proofs.laws.CoreBase.{Known, old, recent, acc-news, del-news, lam-news, lam-job, lam-one, known, by-ballot, top-lower, top-news}
+use Rattle.in_order.proofs.laws.CoreBase.{Known, old, recent, acc-news, del-news, lam-news, lam-one, known, by-ballot, top-lower, top-news}
 use Rattle.in_order.proofs.laws.CoreTables.{c1n, i2n, par}
 
 -- what J2 says of the ballot of one NEW_STATE
@@ -53,7 +53,8 @@ module _ {P : Plan} {w : World} (I : Inv P w) where
   j2-step y n ih m k s a c = go (ℕ-discrete m k) (known I n a) (known I n c)
     where
       -- one from the NEW_STATE, one new: the clock of the NEW_STATE parts them
-      apart : {i j : ℕ} → i < P .jobs → rowIn (y .table) i .phase ≢ 0 → rowIn (y .table) i .local ≡ s → rowIn (y .table) j .phase ≡ 0 → Acc (w .post) j (y .ballot) s → m ≡ k
+      apart : {i j : ℕ} → i < P .jobs → rowIn (y .table) i .phase ≢ 0 → rowIn (y .table) i .local ≡ s → rowIn (y .table) j .phase ≡ 0
+          → Acc (w .post) j (y .ballot) s → m ≡ k
       apart {i} l d q z r =
           let x = c1n I n i l d in
           let t : rowIn (y .table) i .local .time ≡ s .time = ap (λ (v : Stamp). v .time) q in
@@ -82,16 +83,6 @@ module _ {P : Plan} {w : World} (I : Inv P w) where
       by-ballot I (Injective P (w .post)) (λ y n ih. record { says = j2-step y n ih }) (N .state) (N .news) .says m k s
       (subst (λ (x : Ballot). Lam P (w .post) x m s) (sym (N .ballot)) a) (subst (λ (x : Ballot). Lam P (w .post) x k s) (sym (N .ballot)) c)
 
-  -- J4L: the head of a ballot has a clock not below its local stamps
-  pub j4l : (p : BoxNo) → p .0 < boxesOf P → p ≡ the w p .core .cballot .owner → {m : ℕ} {s : Stamp} → Lam P (w .post) (the w p .core .cballot) m s
-      → s .time ≤ the w p .core .clock
-  j4l p b e {m} {s} a =
-      let d = I .locals .l1 p b e a in
-      let H = I .holds .of-box p b in
-      let q : rowIn (the w p .core .table) m .local .time ≡ s .time = ap (λ (v : Stamp). v .time) (lam-one I (H .l2 m (lam-job I a) d) a) in
-      let c = H .c1 m (lam-job I a) d in
-      omega arith
-
   -- ---- certificates
 
   -- the entry of a vector for a district is of that district
@@ -99,7 +90,8 @@ module _ {P : Plan} {w : World} (I : Inv P w) where
   entry-home {d = d} a p = I .forms .ack (meets (p .quorum) (p .quorum) .left) .homes d a
 
   -- I4a, for each district: Lts(d) of two certificates of a job are equal
-  pub lts-one : {m : ℕ} {f f′ : District → Ballot} {d : District} {t t′ : Stamp} → names P m d ≡ true → (p : Part P (w .post) m f d t) (q : Part P (w .post) m f′ d t′) → p .stamp ≡ q .stamp
+  pub lts-one : {m : ℕ} {f f′ : District → Ballot} {d : District} {t t′ : Stamp} → names P m d ≡ true
+      → (p : Part P (w .post) m f d t) (q : Part P (w .post) m f′ d t′) → p .stamp ≡ q .stamp
   lts-one {m} {f} {f′} {d} a p q = go (compare ballotOrder (f d) (f′ d))
     where
       go : Compared ballotLt (f d) (f′ d) → p .stamp ≡ q .stamp

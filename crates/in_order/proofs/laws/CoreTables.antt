@@ -20,9 +20,11 @@ use Rattle.records.specs.Rec.{Rec, Ballotpaper, NewState}
 use Rattle.world.specs.World.{World}
 use Rattle.in_order.proofs.laws.Compare.{Lower, Upto, Within, strict, equal, within, le-le, le-both, le-then-lt}
 use Rattle.in_order.proofs.laws.Quorate.{Quorate, Both, meets}
-use Rattle.in_order.proofs.laws.Notions.{the, rowIn, Acc, Ack, Voted, News, Lam, stated, asked, Timed, Stay, Acked, Final, Voter, AVoter, Source, done, taken, start, Merge}
+use Rattle.in_order.proofs.laws.Notions.{the, rowIn, Acc, Ack, News, Lam, stated, asked, Timed, Stay, Acked, Final, Voter, AVoter, Source, done, taken}
+use Rattle.in_order.proofs.laws.Notions.{start, Merge}
 use Rattle.in_order.proofs.laws.Inv.{Inv, Held}
-use Rattle.in_order.proofs.laws.CoreBase.{lower-real, timed-up, news-real, by-ballot, lam-news, lam-one, voter-home, voter-lower, top-lower, top-home, top-news, told}
+use Rattle.in_order.proofs.laws.CoreBase.{lower-real, timed-up, news-real, by-ballot, lam-news, lam-one, voter-home, voter-lower, top-lower, top-home}
+use Rattle.in_order.proofs.laws.CoreBase.{top-news, told}
 
 -- what I2n says of one NEW_STATE
 pub record StaysAt (P : Plan) (l : List Rec) (y : NewState) : Type 0 where
@@ -53,7 +55,8 @@ module _ {P : Plan} {w : World} (I : Inv P w) where
   pub merge-c1 : {y : NewState} → Merge P (w .post) y → (m : ℕ) → m < P .jobs → rowIn (y .table) m .phase ≢ 0 → rowIn (y .table) m .local .time ≤ y .clock .time
   merge-c1 {y} M m l d = go (M .rows m l)
     where
-      of : {top : Ballot} {u : BoxNo} {z : Ballotpaper} → Voter P (w .post) y top u z → rowIn (y .table) m ≡ rowIn (z .table) m → rowIn (y .table) m .local .time ≤ y .clock .time
+      of : {top : Ballot} {u : BoxNo} {z : Ballotpaper} → Voter P (w .post) y top u z → rowIn (y .table) m ≡ rowIn (z .table) m
+          → rowIn (y .table) m .local .time ≤ y .clock .time
       of {z = z} v e =
           let c = I .holds .of-vote (v .voted) .c1 m l (subst (λ (r : Row). r .phase ≢ 0) e d) in
           let q : rowIn (y .table) m .local .time ≡ rowIn (z .table) m .local .time = ap (λ (r : Row). r .local .time) e in
@@ -97,14 +100,16 @@ module _ {P : Plan} {w : World} (I : Inv P w) where
           subst (λ (r : Row). Lam P (w .post) (M .top) m (r .local)) (sym e) (subst (λ (b : Ballot). Lam P (w .post) b m (rowIn (z .table) m .local)) t a)
 
       -- of a voter of a lower cballot that has the job committed
-      low : {u : BoxNo} {z : Ballotpaper} → Voter P (w .post) y (M .top) u z → Lower (z .cballot) (M .top) → rowIn (z .table) m .phase ≡ 3 → rowIn (y .table) m ≡ rowIn (z .table) m
+      low : {u : BoxNo} {z : Ballotpaper} → Voter P (w .post) y (M .top) u z → Lower (z .cballot) (M .top) → rowIn (z .table) m .phase ≡ 3
+          → rowIn (y .table) m ≡ rowIn (z .table) m
           → Lam P (w .post) (M .top) m (rowIn (y .table) m .local)
       low {u} {z} v t p e =
           let F = I .holds .of-vote (v .voted) .i3 m l p in
           let c = le-then-lt ballotOrder (F .below) t in
           let r : 1 ≤ M .top .number = lower-real (I .forms .acc (F .local) .real) c in
           let N = top-news I M r in
-          let h : homeOf P (N .state .ballot .owner) ≡ homeOf P u = ap (λ (b : Ballot). homeOf P (b .owner)) (N .ballot) ∙ top-home I M r ∙ sym (voter-home I v) in
+          let h : homeOf P (N .state .ballot .owner) ≡ homeOf P u =
+          ap (λ (b : Ballot). homeOf P (b .owner)) (N .ballot) ∙ top-home I M r ∙ sym (voter-home I v) in
           let S = ih (N .state) (N .news) (N .ballot) .says m (F .vector) (homeOf P u) (F .named) (F .cert .each (homeOf P u) (F .named) .quorum) h
           (subst (λ (b : Ballot). Lower (F .vector (homeOf P u)) b) (sym (N .ballot)) c) in
           stated (N .state) (N .news) (N .ballot) l (omega (arith, S .phase)) (I .locals .i1a (S .local) (F .local) ∙ ap (λ (r : Row). r .local) (sym e))
@@ -147,7 +152,8 @@ module _ {P : Plan} {w : World} (I : Inv P w) where
     carried : Within ballotLt (f g) (M .top) → Carried P (w .post) m f g (M .top) y
     carried (equal e) =
         let v = shared .right .voter in
-        let t : shared .right .paper .cballot ≡ M .top = le-both ballotOrder (v .upto) (subst (λ (b : Ballot). Upto b (shared .right .paper .cballot)) e (tale .below)) in
+        let t : shared .right .paper .cballot ≡ M .top =
+        le-both ballotOrder (v .upto) (subst (λ (b : Ballot). Upto b (shared .right .paper .cballot)) e (tale .below)) in
         let S = tale .stay (e ∙ sym t) in
         record {
           stamp = rowIn (shared .right .paper .table) m .local;
@@ -215,8 +221,3 @@ module _ {P : Plan} {w : World} (I : Inv P w) where
   pub i2b : {m : ℕ} {f : District → Ballot} (p : BoxNo) → p .0 < boxesOf P → names P m (homeOf P p) ≡ true → Quorate P (homeOf P p) (λ q. Ack P (w .post) q m f)
       → Lower (f (homeOf P p)) (the w p .core .cballot) → Stay P (w .post) m f (homeOf P p) (the w p .core .clock) (the w p .core .table)
   i2b p b a q l = i2-held (I .holds .of-box p b) a q (I .forms .box p b .chome) l
-
-  -- I2v: of a vote
-  pub i2v : {m : ℕ} {f : District → Ballot} {p : BoxNo} {z : Ballotpaper} → Voted (w .post) p z → names P m (homeOf P p) ≡ true → Quorate P (homeOf P p) (λ q. Ack P (w .post) q m f)
-      → Lower (f (homeOf P p)) (z .cballot) → Stay P (w .post) m f (homeOf P p) (z .clock .time) (z .table)
-  i2v v a q l = i2-held (I .holds .of-vote v) a q (I .forms .vote v .chome) l

@@ -75,7 +75,10 @@ module _ (P : Plan) (d : District) (m : ℕ) (p : BoxNo) (low : p .0 < mostMarks
           ∙ rw e (sym (getD-set-same (cutFlags m) place true false (rw (flags-long m) place-low)))
       at i h (no e) =
           let z = place-is in
-          flag-is (marked m p) i h ∙ mark-other m p (boxNo (base + i)) low (omega arith) ∙ sym (flag-is m i h) ∙ sym (getD-set-other (cutFlags m) place i true false e)
+          flag-is (marked m p) i h
+          ∙ mark-other m p (boxNo (base + i)) low (omega arith)
+          ∙ sym (flag-is m i h)
+          ∙ sym (getD-set-other (cutFlags m) place i true false e)
 
   ones-is : (n : ℕ) → count (cutFlags n) ≡ ones (marksIn P n d)
   unfolding cutFlags marksIn base
@@ -106,7 +109,8 @@ marks-in P d (p ∷ l) few (one-other b e n D) q h = go (same-box q p) (λ k. ma
     go (yes i) f = record { place = 0; there = ap mathlib.Core.Option.some (sym i) }
     go (no i) f = in-tail (f (sym (mark-other (marksOf l) p q (omega arith) (box-ne i)) ∙ h))
 
-counts : (P : Plan) (d : District) (l : List BoxNo) → boxesOf P ≤ mostMarks → Different P d l → ones (marksIn P (marksOf l) d) ≡ ones (marksIn P noMarks d) + length l
+counts : (P : Plan) (d : District) (l : List BoxNo) → boxesOf P ≤ mostMarks → Different P d l
+    → ones (marksIn P (marksOf l) d) ≡ ones (marksIn P noMarks d) + length l
 unfolding marksOf
 counts P d [] few D = omega arith
 counts P d (p ∷ l) few (one-other b e n D) =
@@ -119,7 +123,8 @@ counts P d (p ∷ l) few (one-other b e n D) =
     go (inr t) = t
 
 -- different boxes of a district, as many as a quorum has
-pub counted : {P : Plan} {d : District} (l : List BoxNo) (Q : BoxNo → Type 0) → planSound P ≡ true → Different P d l → quorumOf P ≤ length l → ((p : BoxNo) → In p l → Q p) → Quorate P d Q
+pub counted : {P : Plan} {d : District} (l : List BoxNo) (Q : BoxNo → Type 0) → planSound P ≡ true → Different P d l → quorumOf P ≤ length l
+    → ((p : BoxNo) → In p l → Q p) → Quorate P d Q
 unfolding quorumIn
 counted {P} {d} l Q s D h f =
     let few : boxesOf P ≤ mostMarks = omega (arith, boxes-most P s) in
@@ -134,7 +139,8 @@ two-enough : (P : Plan) → quorumOf P ≤ 2
 unfolding quorumOf sizeOf majority
 two-enough P = omega arith
 
-pub pair : {P : Plan} {d : District} {Q : BoxNo → Type 0} → planSound P ≡ true → (p q : BoxNo) → p .0 < boxesOf P → q .0 < boxesOf P → homeOf P p ≡ d → homeOf P q ≡ d → p ≢ q → Q p → Q q
+pub pair : {P : Plan} {d : District} {Q : BoxNo → Type 0} → planSound P ≡ true → (p q : BoxNo) → p .0 < boxesOf P → q .0 < boxesOf P → homeOf P p ≡ d
+    → homeOf P q ≡ d → p ≢ q → Q p → Q q
     → Quorate P d Q
 pair {P} {d} {Q} s p q lp lq hp hq n a b =
     counted (p ∷ q ∷ []) Q s (one-other lp hp first (one-other lq hq (λ i. in-nil i) no-more)) (two-enough P) (λ r i. which r (in-head i))
@@ -167,5 +173,17 @@ another P p h = go (ℕ-discrete (p .0) (homeOf P p .0 * sizeOf P + 0))
     low = home-low P p h
 
     go : Dec (p .0 ≡ homeOf P p .0 * sizeOf P + 0) → Another P p
-    go (yes e) = record { box = boxNo (homeOf P p .0 * sizeOf P + 1); known = home-box P (homeOf P p .0) 1 low (omega (arith, two)); home = home-is P (homeOf P p .0) 1 (omega (arith, two)); other = omega arith }
-    go (no n) = record { box = boxNo (homeOf P p .0 * sizeOf P + 0); known = home-box P (homeOf P p .0) 0 low (omega (arith, two)); home = home-is P (homeOf P p .0) 0 (omega (arith, two)); other = λ e. n (sym e) }
+    go (yes e) =
+        record {
+          box = boxNo (homeOf P p .0 * sizeOf P + 1);
+          known = home-box P (homeOf P p .0) 1 low (omega (arith, two));
+          home = home-is P (homeOf P p .0) 1 (omega (arith, two));
+          other = omega arith;
+        }
+    go (no n) =
+        record {
+          box = boxNo (homeOf P p .0 * sizeOf P + 0);
+          known = home-box P (homeOf P p .0) 0 low (omega (arith, two));
+          home = home-is P (homeOf P p .0) 0 (omega (arith, two));
+          other = λ e. n (sym e);
+        }

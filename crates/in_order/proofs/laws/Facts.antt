@@ -16,7 +16,8 @@ use Rattle.house.specs.declared.District.{District}
 use Rattle.house.specs.Plan.{boxesOf, homeOf}
 use Rattle.house.proofs.laws.Says.{plan-says, box-says, ballot-in-says}
 use Rattle.house.specs.declared.Plan.{Plan}
-use Rattle.records.specs.Rec.{Proposal, Handout, Ballotpaper, NewState, multicast, accept, accept-ack, deliver, newleader, newleader-ack, new-state, newstate-ack}
+use Rattle.records.specs.Rec.{Proposal, Handout, Ballotpaper, NewState, multicast, accept, accept-ack, deliver, newleader, newleader-ack, new-state}
+use Rattle.records.specs.Rec.{newstate-ack}
 use Rattle.records.specs.Rules.{rules}
 use Rattle.records.proofs.laws.Rows.{row-most, row-begun, both-say}
 use Rattle.records.proofs.laws.Obeys.{Neighbours, Others, rules-say}

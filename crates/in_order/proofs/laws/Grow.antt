@@ -13,7 +13,8 @@ use Rattle.house.specs.declared.Plan.{Plan}
 use Rattle.records.specs.Rec.{Rec, Ballotpaper, NewState}
 use Rattle.boxes.specs.declared.Vote.{Vote}
 use Rattle.in_order.proofs.laws.Quorate.{Quorate, quorate-map}
-use Rattle.in_order.proofs.laws.Notions.{Acc, Ack, Del, DelAt, Voted, News, NewsOf, Nsa, Joined, follows, heads, Lam, stated, asked, Timed, Stay, Acked, Part, Cert, Final, Voter, Source, done, taken, start, Merge}
+use Rattle.in_order.proofs.laws.Notions.{Acc, Ack, Del, DelAt, Voted, News, NewsOf, Nsa, Joined, follows, heads, Lam, stated, asked, Timed, Stay, Acked}
+use Rattle.in_order.proofs.laws.Notions.{Part, Cert, Final, Voter, Source, done, taken, start, Merge}
 use Rattle.in_order.proofs.laws.Inv.{KeptVote, Asked, Handed, later, earlier, Before, Listing}
 
 module _ {l l′ : List Rec} (B : Begins l l′) where
@@ -118,7 +119,9 @@ module _ (l k : List Rec) where
 
   pub ack-cases : {P : Plan} {p : BoxNo} {m : ℕ} {f : District → Ballot} → Ack P (l ++ k) p m f → Ack P l p m f ⊎ Ack P k p m f
   ack-cases h =
-      either (λ i. record { to = h .to; ballots = h .ballots; there = i; entries = h .entries }) (λ i. record { to = h .to; ballots = h .ballots; there = i; entries = h .entries })
+      either
+      (λ i. record { to = h .to; ballots = h .ballots; there = i; entries = h .entries })
+      (λ i. record { to = h .to; ballots = h .ballots; there = i; entries = h .entries })
       (in-cases l k (h .there))
 
   pub del-cases : {m : ℕ} {b : Ballot} {s t : Stamp} → Del (l ++ k) m b s t → Del l m b s t ⊎ Del k m b s t
@@ -128,7 +131,8 @@ module _ (l k : List Rec) where
   voted-cases h = either (λ i. record { to = h .to; there = i }) (λ i. record { to = h .to; there = i }) (in-cases l k (h .there))
 
   pub news-cases : {y : NewState} → News (l ++ k) y → News l y ⊎ News k y
-  news-cases h = either (λ i. record { from = h .from; to = h .to; there = i }) (λ i. record { from = h .from; to = h .to; there = i }) (in-cases l k (h .there))
+  news-cases h =
+      either (λ i. record { from = h .from; to = h .to; there = i }) (λ i. record { from = h .from; to = h .to; there = i }) (in-cases l k (h .there))
 
   pub nsa-cases : {p : BoxNo} {b : Ballot} → Nsa (l ++ k) p b → Nsa l p b ⊎ Nsa k p b
   nsa-cases h = either (λ i. record { to = h .to; there = i }) (λ i. record { to = h .to; there = i }) (in-cases l k (h .there))

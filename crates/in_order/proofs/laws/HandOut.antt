@@ -11,8 +11,7 @@ use lib.Dec.{eqb}
 use lib.ListN.{length, getD, set, length-set}
 use lib.Seq.{getD-set-same, getD-set-other}
 use borrow.Author.Tests.{eqb-true, eqb-false, eq-eqb, ne-eqb, not-true}
-use Rattle.laws.proofs.laws.Choice.{look, never, pick-when, and-fails, or-fails, or-left, or-right, or-other, not-of}
-use Rattle.laws.specs.Choice.{and-left, and-right, and-both, not-off}
+use Rattle.laws.proofs.laws.Choice.{look, never, pick-when, and-fails, or-fails, or-left, or-right, or-other, not-of, and-left, and-right, and-both, not-off}
 use Rattle.laws.proofs.laws.Fold.{upto-keeps, all-says, all-is}
 use Rattle.laws.specs.Place.{At, In}
 use Rattle.laws.proofs.laws.Place.{Side, before, after, at-nil, at-left, at-lt, at-side, in-left, in-right}
@@ -59,7 +58,8 @@ module _ (P : Plan) (x : BoxState) (n : ℕ) (few : n ≤ mostJobs) where
       go (inr h) = absurd (eqb-false b noJob (or-fails (eqb b noJob) _ h .0) e)
   turn-old b (best l q f) t = best (omega arith) q (more-below f (λ r. go r (and-fails (ready P x n) _ t)))
     where
-      go : ready P x n ≡ true → (ready P x n ≡ false) ⊎ ((eqb b noJob || stampLt (rowAt x n .global) (rowAt x b .global)) ≡ false) → Until (rowAt x b .global) (rowAt x n .global)
+      go : ready P x n ≡ true → (ready P x n ≡ false) ⊎ ((eqb b noJob || stampLt (rowAt x n .global) (rowAt x b .global)) ≡ false)
+          → Until (rowAt x b .global) (rowAt x n .global)
       go r (inl h) = never r h
       go r (inr h) = record { says = or-fails (eqb b noJob) _ h .1 }
 
@@ -195,7 +195,12 @@ module _ (P : Plan) (x : BoxState) (known : ownOf x .0 < boxesOf P) (long : leng
   own-goes : In (deliver (ownOf x) (ownOf x) j (handout x j)) goes
   unfolding goes delivers rowAt
   own-goes =
-      each-in P (λ p. sameHome P p (ownOf x)) (λ to. deliver (ownOf x) to j (record { ballot = x .core .cballot; local = rowAt x j .local; global = rowAt x j .global })) (ownOf x) known
+      each-in
+      P
+      (λ p. sameHome P p (ownOf x))
+      (λ to. deliver (ownOf x) to j (record { ballot = x .core .cballot; local = rowAt x j .local; global = rowAt x j .global }))
+      (ownOf x)
+      known
       (same-home-is P (ownOf x) (ownOf x) refl)
 
   -- jobs of smaller stamps that were ready went out before
@@ -235,7 +240,8 @@ module _ (P : Plan) (x : BoxState) (known : ownOf x .0 < boxesOf P) (long : leng
       set-for m h (yes e) = inr (in-right s goes (rw e own-goes))
       set-for m h (no e) = old (T .set-for m (rw (getD-set-other l j m true false e) at h))
         where
-          old : (sentAt x m ≡ true) ⊎ In (deliver (ownOf x) (ownOf x) m (handout x m)) s → (sentAt x m ≡ true) ⊎ In (deliver (ownOf x) (ownOf x) m (handout x m)) (s ++ goes)
+          old : (sentAt x m ≡ true) ⊎ In (deliver (ownOf x) (ownOf x) m (handout x m)) s
+              → (sentAt x m ≡ true) ⊎ In (deliver (ownOf x) (ownOf x) m (handout x m)) (s ++ goes)
           old (inl t) = inl t
           old (inr i) = inr (in-left s goes i)
 
@@ -248,7 +254,9 @@ module _ (P : Plan) (x : BoxState) (known : ownOf x .0 < boxesOf P) (long : leng
             ready-it = G .ready-it;
             to = G .to;
             is = G .is;
-            first = λ k lk rk e. let z = G .first k lk rk e in (z .0, z .1, record { from = z .2 .from; to = z .2 .to; there = at-left s goes (z .0) (z .2 .there) });
+            first =
+                λ k lk rk e.
+                let z = G .first k lk rk e in (z .0, z .1, record { from = z .2 .from; to = z .2 .to; there = at-left s goes (z .0) (z .2 .there) });
           }
       gone i q (after n e h) =
           let z = in-goes (record { place = n; there = h }) in
@@ -264,15 +272,18 @@ module _ (P : Plan) (x : BoxState) (known : ownOf x .0 < boxesOf P) (long : leng
 
       flags : (i : ℕ) {from to : BoxNo} {m : ℕ} {y : Handout} → Side s goes i (deliver from to m y) → getD (set l j true) m false ≡ true
       flags i {m = m} (before h) = at-flag m (λ _. refl) (λ _. T .flags i h)
-      flags i {m = m} (after n e h) = let z = in-goes (record { place = n; there = h }) in let q = z .1 in let em : m ≡ j = cc in at-flag m (λ _. refl) (λ d. absurd (d em))
+      flags i {m = m} (after n e h) =
+          let z = in-goes (record { place = n; there = h }) in let q = z .1 in let em : m ≡ j = cc in at-flag m (λ _. refl) (λ d. absurd (d em))
 
-hand-next : (P : Plan) (x : BoxState) → ownOf x .0 < boxesOf P → length (x .core .sent) ≡ mostJobs → P .jobs ≤ mostJobs → (h : Handing) → Handed P x h → Handed P x (handNext P h)
+hand-next : (P : Plan) (x : BoxState) → ownOf x .0 < boxesOf P → length (x .core .sent) ≡ mostJobs → P .jobs ≤ mostJobs → (h : Handing) → Handed P x h
+    → Handed P x (handNext P h)
 unfolding handNext flagged goes
 hand-next P x known long few h H =
     pick-when (λ c. Handed P x c) (eqb (nextReady P (h .box)) noJob) (λ _. H)
     (λ t. step (h .box) (H .box-is) t)
   where
-    turn : (j : ℕ) → eqb j noJob ≡ false → Best P (putSent x (H .flags)) (P .jobs) j → Turned P x (set (H .flags) j true) (h .sent ++ delivers P (putSent x (H .flags)) j)
+    turn : (j : ℕ) → eqb j noJob ≡ false → Best P (putSent x (H .flags)) (P .jobs) j
+        → Turned P x (set (H .flags) j true) (h .sent ++ delivers P (putSent x (H .flags)) j)
     turn j t (nobody e f) = absurd (eqb-false j noJob t e)
     turn j t (best low r f) = turned P x known long few (H .flags) (h .sent) (H .turned) j low r f
 
@@ -291,7 +302,14 @@ pub hand-out : (P : Plan) (x : BoxState) → ownOf x .0 < boxesOf P → length (
 unfolding handTurns sentAt
 hand-out P x known long few =
     upto-keeps (λ h. Handed P x h) (λ h i. handNext P h) (record { box = x; sent = [] }) (P .jobs)
-    (record { flags = x .core .sent; box-is = refl; turned = record { size = refl; stays = flag-is; set-for = λ m e. inl (is-flag m e); gone = λ i r a. absurd (at-nil i a); flags = λ i a. absurd (at-nil i a) } })
+    (record {
+      flags = x .core .sent;
+      box-is = refl;
+      turned
+          =
+          record
+          { size = refl; stays = flag-is; set-for = λ m e. inl (is-flag m e); gone = λ i r a. absurd (at-nil i a); flags = λ i a. absurd (at-nil i a) };
+    })
     (λ h i _ H. hand-next P x known long few h H)
   where
     flag-is : (m : ℕ) → sentAt x m ≡ true → getD (x .core .sent) m false ≡ true

@@ -223,15 +223,18 @@ pub record Hands (P : Plan) (w : World) : Type 0 where
   -- I6: the head of a ballot has flagged exactly what it handed out in it
   pub i6-sent : (p : BoxNo) → p .0 < boxesOf P → p ≡ the w p .core .cballot .owner → {m : ℕ} {s t : Stamp} → Del (w .post) m (the w p .core .cballot) s t
       → sentAt (the w p) m ≡ true
-  pub i6-del : (p : BoxNo) → p .0 < boxesOf P → p ≡ the w p .core .cballot .owner → 1 ≤ the w p .core .cballot .number → (m : ℕ) → m < P .jobs → sentAt (the w p) m ≡ true
+  pub i6-del : (p : BoxNo) → p .0 < boxesOf P → p ≡ the w p .core .cballot .owner → 1 ≤ the w p .core .cballot .number → (m : ℕ) → m < P .jobs
+      → sentAt (the w p) m ≡ true
       → (s t : Stamp) × Del (w .post) m (the w p .core .cballot) s t
   -- I5a: of a job with a smaller local stamp there is a certificate, and it was handed out before or its stamp is larger
-  pub i5a : {i m m′ : ℕ} {b : Ballot} {s t s′ : Stamp} → DelAt (w .post) i m b s t → m′ ≢ m → Lam P (w .post) b m′ s′ → Sooner s′ t → Before P (w .post) i m′ b t
+  pub i5a : {i m m′ : ℕ} {b : Ballot} {s t s′ : Stamp} → DelAt (w .post) i m b s t → m′ ≢ m → Lam P (w .post) b m′ s′ → Sooner s′ t
+      → Before P (w .post) i m′ b t
   -- D1: a job on a list was handed out
   pub d1 : (p : BoxNo) → p .0 < boxesOf P → (i : ℕ) → i < the w p .core .count
       → Listing P (w .post) (homeOf P p) (listedAt (the w p) i .job) (listedAt (the w p) i .stamp) (the w p .core .cballot) (the w p .core .table)
   -- S, of lists: jobs differ, stamps rise
-  pub rising : (p : BoxNo) → p .0 < boxesOf P → (k i : ℕ) → k < i → i < the w p .core .count → Sooner (listedAt (the w p) k .stamp) (listedAt (the w p) i .stamp)
+  pub rising : (p : BoxNo) → p .0 < boxesOf P → (k i : ℕ) → k < i → i < the w p .core .count
+      → Sooner (listedAt (the w p) k .stamp) (listedAt (the w p) i .stamp)
   pub once : (p : BoxNo) → p .0 < boxesOf P → (k i : ℕ) → k < i → i < the w p .core .count → listedAt (the w p) k .job ≢ listedAt (the w p) i .job
 
 pub record Inv (P : Plan) (w : World) : Type 0 where

@@ -10,12 +10,11 @@ use native.Mathlib.Omega.{arith}
 use lib.Dec.{ltb}
 use lib.ListN.{getD, replicate}
 use borrow.Author.Tests.{ltb-true, ltb-false}
-use Rattle.laws.proofs.laws.Choice.{look, never, pick-when, or-fails}
-use Rattle.laws.specs.Choice.{pick-true}
+use Rattle.laws.proofs.laws.Choice.{look, never, pick-when, or-fails, pick-true}
 use Rattle.laws.specs.Lex.{Three, less, same, more, larger}
 use Rattle.laws.proofs.laws.Lex.{larger-left, larger-right, lex-below, Below, first, second}
 use Rattle.house.specs.Limits.{mostDistricts, mostJobs}
-use Rattle.house.specs.Pairs.{district, boxNo, noStamp, noBallot, stampLt, ballotLt, laterStamp, isNoBallot}
+use Rattle.house.specs.Pairs.{district, boxNo, noStamp, noBallot, stampLt, laterStamp, isNoBallot}
 use Rattle.house.proofs.laws.Orders.{stampOrder, no-ballot-says}
 use Rattle.house.specs.declared.Stamp.{Stamp}
 use Rattle.house.specs.declared.Ballot.{Ballot}
@@ -26,7 +25,7 @@ use Rattle.house.specs.declared.Plan.{Plan}
 use Rattle.boxes.specs.Box.{keptAt, keptBallot, keptStamp, raised}
 use Rattle.boxes.specs.Accept.{latestKept, keptFor, keptVector}
 use Rattle.boxes.specs.declared.BoxState.{BoxState}
-use Rattle.in_order.proofs.laws.Compare.{Sooner, Until, Upto, le-refl, le-le, lt-to-le, compare, Compared, under, level, over}
+use Rattle.in_order.proofs.laws.Compare.{Sooner, Until, le-le}
 
 -- a place of a list of one value
 pub one-value : {A : Type 0} (n i : ℕ) (a : A) → getD (replicate n a) i a ≡ a
@@ -47,19 +46,6 @@ sooner-time {s} {t} h = go (lex-below (s .time) (s .district .0) (t .time) (t .d
     go : Below (s .time) (s .district .0) (t .time) (t .district .0) → s .time ≤ t .time
     go (first k) = omega arith
     go (second e k) = omega arith
-
--- a later time is a later stamp
-pub time-until : {s t : Stamp} → s .time < t .time → Until s t
-time-until {s} {t} h = go (compare stampOrder s t)
-  where
-    go : Compared stampLt s t → Until s t
-    go (under k) = lt-to-le stampOrder k
-    go (level e) = rw e (le-refl stampOrder)
-    go (over k) = absurd (omega (arith, sooner-time k))
-
-pub upto-number : {b c : Ballot} → Upto b c → b .number ≤ c .number
-unfolding ballotLt
-upto-number {b} {c} h = ltb-false (c .number) (b .number) (or-fails (ltb (c .number) (b .number)) _ (h .says) .0)
 
 -- a real ballot is not none
 pub real-some : (b : Ballot) → 1 ≤ b .number → isNoBallot b ≡ false
@@ -119,10 +105,17 @@ latest-is P x j zero = nowhere (λ d l. absurd (omega arith)) refl
 latest-is P x j (suc n) =
     let s = latestKept P x j n in
     let k = keptStamp x j (district n) in
-    pick-when (λ c. Latest P x j (suc n) c) (names P j (district n)) (λ t. here t (latest-is P x j n) (larger-one stampLt s k)) (λ t. there t (latest-is P x j n))
+    pick-when
+    (λ c. Latest P x j (suc n) c)
+    (names P j (district n))
+    (λ t. here t (latest-is P x j n) (larger-one stampLt s k))
+    (λ t. there t (latest-is P x j n))
   where
     here : names P j (district n) ≡ true → Latest P x j n (latestKept P x j n)
-        → (laterStamp (latestKept P x j n) (keptStamp x j (district n)) ≡ latestKept P x j n) ⊎ (laterStamp (latestKept P x j n) (keptStamp x j (district n)) ≡ keptStamp x j (district n))
+        →
+        (laterStamp (latestKept P x j n) (keptStamp x j (district n)) ≡ latestKept P x j n)
+        ⊎
+        (laterStamp (latestKept P x j n) (keptStamp x j (district n)) ≡ keptStamp x j (district n))
         → Latest P x j (suc n) (laterStamp (latestKept P x j n) (keptStamp x j (district n)))
     here t (nowhere f e) _ = somewhere n (omega arith) t (rw e (none-first (keptStamp x j (district n))))
     here t (somewhere d l q e) (inl h) = somewhere d (omega arith) q (h ∙ e)
@@ -156,7 +149,8 @@ kept-apart j k d e ld le q = let a : j ≡ k = omega arith in (a, omega arith)
 
 -- ---- the vector of an acknowledgement
 
-pub vector-at : (P : Plan) (x : BoxState) (j : ℕ) (d : District) → d .0 < mostDistricts → names P j d ≡ true → getD (keptVector P x j) (d .0) noBallot ≡ keptBallot x j d
+pub vector-at : (P : Plan) (x : BoxState) (j : ℕ) (d : District) → d .0 < mostDistricts → names P j d ≡ true
+    → getD (keptVector P x j) (d .0) noBallot ≡ keptBallot x j d
 unfolding keptVector keptFor
 vector-at P x j d l n = go (d .0) l refl
   where

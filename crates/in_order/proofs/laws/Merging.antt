@@ -12,8 +12,7 @@ use lib.Dec.{ltb}
 use lib.ListN.{length, length-set, length-map}
 use lib.Seq.{getD-set-same, getD-set-other}
 use borrow.Author.Tests.{eqb-true, eq-eqb}
-use Rattle.laws.proofs.laws.Choice.{never, pick-when}
-use Rattle.laws.specs.Choice.{pick-true, pick-false, and-left, and-right, and-both}
+use Rattle.laws.proofs.laws.Choice.{never, pick-when, pick-true, pick-false, and-left, and-right, and-both}
 use Rattle.laws.specs.Fold.{upto}
 use Rattle.laws.specs.Place.{In}
 use Rattle.laws.proofs.laws.Place.{in-nil, in-head, in-tail, in-one, in-map}
@@ -65,7 +64,9 @@ unfolding topBallot
 top-is v [] = top-one v
 top-is v (u ∷ vs) = go (top-is u vs) (larger-one ballotLt (v .cballot) (topBallot (u ∷ vs)))
   where
-    go : Topmost (u ∷ vs) → (higherBallot (v .cballot) (topBallot (u ∷ vs)) ≡ v .cballot) ⊎ (higherBallot (v .cballot) (topBallot (u ∷ vs)) ≡ topBallot (u ∷ vs)) → Topmost (v ∷ u ∷ vs)
+    go : Topmost (u ∷ vs)
+        → (higherBallot (v .cballot) (topBallot (u ∷ vs)) ≡ v .cballot) ⊎ (higherBallot (v .cballot) (topBallot (u ∷ vs)) ≡ topBallot (u ∷ vs))
+        → Topmost (v ∷ u ∷ vs)
     go T (inl e) = record { vote = v; there = record { place = 0; there = refl }; is-top = sym e }
     go T (inr e) = record { vote = T .vote; there = in-tail (T .there); is-top = T .is-top ∙ sym e }
 
@@ -117,19 +118,28 @@ merged-from vs j = go (first-is (committedAt j) j vs (firstRow (acceptedAt (topB
     go (miss f q) (miss g e) = from-none (q ∙ e)
 
 -- what a vote of highest cballot has accepted or committed is not lost
-pub merged-keeps : (vs : List Vote) (j : ℕ) (v : Vote) → In v vs → v .cballot ≡ topBallot vs → 2 ≤ rowIn (v .table) j .phase → rowIn (v .table) j .phase ≤ 3 → 2 ≤ mergedRow vs j .phase
+pub merged-keeps : (vs : List Vote) (j : ℕ) (v : Vote) → In v vs → v .cballot ≡ topBallot vs → 2 ≤ rowIn (v .table) j .phase → rowIn (v .table) j .phase ≤ 3
+    → 2 ≤ mergedRow vs j .phase
 unfolding mergedRow committedAt acceptedAt voteRow
 merged-keeps vs j v i c lo hi =
-    go (first-is (committedAt j) j vs (firstRow (acceptedAt (topBallot vs) j) j vs noRow)) (first-is (acceptedAt (topBallot vs) j) j vs noRow) (ℕ-discrete (rowIn (v .table) j .phase) 3)
+    go
+    (first-is (committedAt j) j vs (firstRow (acceptedAt (topBallot vs) j) j vs noRow))
+    (first-is (acceptedAt (topBallot vs) j) j vs noRow)
+    (ℕ-discrete (rowIn (v .table) j .phase) 3)
   where
     go : First (committedAt j) j vs (firstRow (acceptedAt (topBallot vs) j) j vs noRow) (mergedRow vs j)
-        → First (acceptedAt (topBallot vs) j) j vs noRow (firstRow (acceptedAt (topBallot vs) j) j vs noRow) → Dec (rowIn (v .table) j .phase ≡ 3) → 2 ≤ mergedRow vs j .phase
+        → First (acceptedAt (topBallot vs) j) j vs noRow (firstRow (acceptedAt (topBallot vs) j) j vs noRow)
+        → Dec (rowIn (v .table) j .phase ≡ 3)
+        → 2 ≤ mergedRow vs j .phase
     go (hit u k t q) _ _ = let e = eqb-true (rowIn (u .table) j .phase) 3 t in rw (ap (λ (r : Row). r .phase) q) (omega arith)
     go (miss f q) _ (yes e) = never (eq-eqb (rowIn (v .table) j .phase) 3 e) (f v i)
     go (miss f q) (hit u k t e) (no n) =
-        let z = eqb-true (rowIn (u .table) j .phase) 2 (and-right (sameBallot (u .cballot) (topBallot vs)) _ t) in rw (ap (λ (r : Row). r .phase) (q ∙ e)) (omega arith)
+        let z = eqb-true (rowIn (u .table) j .phase) 2 (and-right (sameBallot (u .cballot) (topBallot vs)) _ t) in
+        rw (ap (λ (r : Row). r .phase) (q ∙ e)) (omega arith)
     go (miss f q) (miss g e) (no n) =
-        never (and-both (sameBallot (v .cballot) (topBallot vs)) _ (rw c (ballotOrder .eq-is (topBallot vs))) (eq-eqb (rowIn (v .table) j .phase) 2 (omega arith))) (g v i)
+        never
+        (and-both (sameBallot (v .cballot) (topBallot vs)) _ (rw c (ballotOrder .eq-is (topBallot vs))) (eq-eqb (rowIn (v .table) j .phase) 2 (omega arith)))
+        (g v i)
 
 -- ---- the merged table
 
@@ -194,10 +204,14 @@ voters-long : (vs : List Vote) → length (voters vs) ≡ length vs
 voters-long vs = length-map vs (λ (v : Vote). v .voter)
 
 votes-different : (P : Plan) (d : District) (old new : Vote) (vs : List Vote) → Shape old new vs → new .voter .0 < boxesOf P → homeOf P (new .voter) ≡ d
-    → (old .held ≡ true → old .voter .0 < boxesOf P) → (old .held ≡ true → homeOf P (old .voter) ≡ d) → (old .held ≡ true → old .voter ≢ new .voter) → Different P d (voters vs)
+    → (old .held ≡ true → old .voter .0 < boxesOf P)
+    → (old .held ≡ true → homeOf P (old .voter) ≡ d)
+    → (old .held ≡ true → old .voter ≢ new .voter)
+    → Different P d (voters vs)
 votes-different P d old new vs (alone h e) ln hn lo ho n = rw e (one-other ln hn (λ i. in-nil i) no-more)
 votes-different P d old new vs (old-first h e) ln hn lo ho n = rw e (one-other (lo h) (ho h) (λ i. n h (in-one i)) (one-other ln hn (λ i. in-nil i) no-more))
-votes-different P d old new vs (new-first h e) ln hn lo ho n = rw e (one-other ln hn (λ i. n h (sym (in-one i))) (one-other (lo h) (ho h) (λ i. in-nil i) no-more))
+votes-different P d old new vs (new-first h e) ln hn lo ho n =
+    rw e (one-other ln hn (λ i. n h (sym (in-one i))) (one-other (lo h) (ho h) (λ i. in-nil i) no-more))
 
 -- a vote at hand stands in the post, and its rows have phases
 pub record Stands (P : Plan) (l : List Rec) (b : Ballot) (v : Vote) : Type 0 where
@@ -244,7 +258,11 @@ module _ (P : Plan) (l : List Rec) (y : NewState) (old new : Vote) (plan : planS
       record {
         top = topBallot vs;
         quorum =
-            counted (voters vs) (λ u. AVoter P l y (topBallot vs) u) plan (votes-different P (homeOf P (y .ballot .owner)) old new vs shape new-box new-home old-box old-home apart)
+            counted
+            (voters vs)
+            (λ u. AVoter P l y (topBallot vs) u)
+            plan
+            (votes-different P (homeOf P (y .ballot .owner)) old new vs shape new-box new-home old-box old-home apart)
             (omega (arith, voters-long vs, votes-long old new vs shape))
             (λ u i. let z = in-map (λ (v : Vote). v .voter) vs i in rw (z .2) (record { paper = stands (z .0) (z .1) .kept .paper; voter = voter-is (z .0) (z .1) }));
         highest = T .vote .voter;

@@ -33,7 +33,8 @@ module _ (P : Plan) (w : World) (p : BoxNo) (known : p .0 < boxesOf P) (F : Form
   other q n = getD-set-other (w .boxes) (p .0) (q .0) (box P w p m) (fresh (boxNo 0)) (box-ne n)
 
   -- what holds of the mover's new box and of every old box holds of every box
-  pub boxes-next : (Q : BoxNo → BoxState → Type 0) → Q p (box P w p m) → ((q : BoxNo) → q .0 < boxesOf P → Q q (the w q)) → (q : BoxNo) → q .0 < boxesOf P → Q q (the (next P w p m) q)
+  pub boxes-next : (Q : BoxNo → BoxState → Type 0) → Q p (box P w p m) → ((q : BoxNo) → q .0 < boxesOf P → Q q (the w q)) → (q : BoxNo) → q .0 < boxesOf P
+      → Q q (the (next P w p m) q)
   boxes-next Q f g q l = go (same-box q p)
     where
       go : Dec (q ≡ p) → Q q (the (next P w p m) q)
@@ -41,7 +42,8 @@ module _ (P : Plan) (w : World) (p : BoxNo) (known : p .0 < boxesOf P) (F : Form
       go (no n) = rw (other q n) (g q l)
 
   -- the same, where the others may use that they are others
-  pub others-next : (Q : BoxNo → BoxState → Type 0) → Q p (box P w p m) → ((q : BoxNo) → q .0 < boxesOf P → q ≢ p → Q q (the w q)) → (q : BoxNo) → q .0 < boxesOf P → Q q (the (next P w p m) q)
+  pub others-next : (Q : BoxNo → BoxState → Type 0) → Q p (box P w p m) → ((q : BoxNo) → q .0 < boxesOf P → q ≢ p → Q q (the w q)) → (q : BoxNo)
+      → q .0 < boxesOf P → Q q (the (next P w p m) q)
   others-next Q f g q l = go (same-box q p)
     where
       go : Dec (q ≡ p) → Q q (the (next P w p m) q)

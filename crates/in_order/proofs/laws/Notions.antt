@@ -154,7 +154,8 @@ pub data Source (P : Plan) (l : List Rec) (y : NewState) (top : Ballot) (m : ℕ
   -- committed at a voter
   done : (u : BoxNo) (z : Ballotpaper) → Voter P l y top u z → rowIn (z .table) m .phase ≡ 3 → rowIn (y .table) m ≡ rowIn (z .table) m → Source P l y top m
   -- accepted at a voter of highest cballot
-  taken : (u : BoxNo) (z : Ballotpaper) → Voter P l y top u z → z .cballot ≡ top → rowIn (z .table) m .phase ≡ 2 → rowIn (y .table) m ≡ rowIn (z .table) m → Source P l y top m
+  taken : (u : BoxNo) (z : Ballotpaper) → Voter P l y top u z → z .cballot ≡ top → rowIn (z .table) m .phase ≡ 2 → rowIn (y .table) m ≡ rowIn (z .table) m
+      → Source P l y top m
   start : rowIn (y .table) m .phase ≡ 0 → Source P l y top m
 
 pub record Merge (P : Plan) (l : List Rec) (y : NewState) : Type 0 where

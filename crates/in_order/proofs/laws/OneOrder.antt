@@ -32,7 +32,8 @@ same-order {x} {y} R S A = record { says = λ i j k n h lj lk ln e f. go i j k n
     go i j k n h lj lk ln e f (no o) (yes z) =
         lt-self stampOrder (rises-at R i j h lj) (A .says i k (omega arith) lk e ∙ ap (λ (m : ℕ). listedAt y m .stamp) z ∙ sym (A .says j n lj ln f))
     go i j k n h lj lk ln e f (no o) (no z) =
-        let back : Sooner (listedAt x j .stamp) (listedAt y k .stamp) = subst (λ (s : Stamp). Sooner s (listedAt y k .stamp)) (sym (A .says j n lj ln f)) (rises-at S n k (omega arith) lk) in
+        let back : Sooner (listedAt x j .stamp) (listedAt y k .stamp) =
+        subst (λ (s : Stamp). Sooner s (listedAt y k .stamp)) (sym (A .says j n lj ln f)) (rises-at S n k (omega arith) lk) in
         lt-self stampOrder (lt-lt stampOrder (rises-at R i j h lj) back) (A .says i k (omega arith) lk e)
 
 pub once : {x : BoxState} → Rises x → Agree x x → Once x

@@ -19,7 +19,8 @@ use Rattle.house.specs.declared.Row.{Row}
 use Rattle.house.specs.Plan.{boxesOf, quorumOf, names}
 use Rattle.house.proofs.laws.Says.{plan-says, names-job}
 use Rattle.house.specs.declared.Plan.{Plan}
-use Rattle.records.specs.Rec.{Rec, Proposal, Handout, Ballotpaper, NewState, multicast, accept, accept-ack, deliver, newleader, newleader-ack, new-state, newstate-ack}
+use Rattle.records.specs.Rec.{Rec, Proposal, Handout, Ballotpaper, NewState, multicast, accept, accept-ack, deliver, newleader, newleader-ack, new-state}
+use Rattle.records.specs.Rec.{newstate-ack}
 use Rattle.boxes.specs.Box.{isLeader, ownOf, homeIn, rowAt, keptBallot}
 use Rattle.boxes.specs.Multicast.{proposed, accepts}
 use Rattle.boxes.specs.Accept.{kept, allKept, accepted, keptFor, keptVector, acks}
@@ -38,7 +39,9 @@ use Rattle.in_order.proofs.laws.Notions.{the, rowIn, ballotAt, Acc, Ack
 use Rattle.in_order.proofs.laws.Inv.{Forms}
 use Rattle.in_order.proofs.laws.Sends.{clash, in-each}
 use Rattle.in_order.proofs.laws.HandOut.{Gone, handout}
-use Rattle.in_order.proofs.laws.Moves.{Multicasting, Accepting, Acking, Joining, Voting, Stating, Leading, Move, m-post, m-retry, m-stand, m-cut, m-propose, m-again, m-keep, m-accept, m-mark, m-commit, m-deliver, m-join, m-hold, m-merge, m-state, m-lead, keeps, marks, commits, merges, box, sent}
+use Rattle.in_order.proofs.laws.Moves.{Multicasting, Accepting, Acking, Joining, Voting, Stating, Leading, Move, m-post, m-retry, m-stand, m-cut}
+use Rattle.in_order.proofs.laws.Moves.{m-propose, m-again, m-keep, m-accept, m-mark, m-commit, m-deliver, m-join, m-hold, m-merge, m-state, m-lead}
+use Rattle.in_order.proofs.laws.Moves.{keeps, marks, commits, merges, box, sent}
 use Rattle.in_order.proofs.laws.Steps.{Hand, commit-hands, lead-hands, proposed-is}
 
 -- the stamp that an ACCEPT of job j carries: a new one, or the stored one
@@ -64,19 +67,27 @@ pub data HandFrom (P : Plan) (w : World) (p : BoxNo) (y : BoxState) : Type 0 whe
 pub data Origin (P : Plan) (w : World) (p : BoxNo) (m : Move P w p) (i : ℕ) (r : Rec) : Type 0 where
   o-multicast : (from to : BoxNo) (j : ℕ) → r ≡ multicast from to j → Origin P w p m i r
   o-newleader : (from to : BoxNo) (b : Ballot) → r ≡ newleader from to b → Origin P w p m i r
-  o-accept : (to : BoxNo) (j : ℕ) (s : Stamp) → Asks P w p m j s → r ≡ accept (ownOf (the w p)) to j (record { ballot = the w p .core .cballot; stamp = s }) → Origin P w p m i r
+  o-accept : (to : BoxNo) (j : ℕ) (s : Stamp) → Asks P w p m j s → r ≡ accept (ownOf (the w p)) to j (record { ballot = the w p .core .cballot; stamp = s })
+      → Origin P w p m i r
   o-ack : (to : BoxNo) (a : Accepting P w p) → allKept P (keeps P w p a) (a .j) ≡ true → box P w p m ≡ accepted P (keeps P w p a) (a .j)
       → r ≡ accept-ack (ownOf (the w p)) to (a .j) (keptVector P (keeps P w p a) (a .j)) → Origin P w p m i r
   o-deliver : (y : BoxState) → HandFrom P w p y → Hand P w p m y → Gone P y (sent P w p m) i r → Origin P w p m i r
   o-vote : (a : Joining P w p) → box P w p m ≡ joined (the w p) (a .b)
-      → r ≡ newleader-ack (ownOf (the w p)) (a .from) (record { ballot = a .b; cballot = the w p .core .cballot; clock = clockStamp P (the w p); table = the w p .core .table })
+      → r
+      ≡ newleader-ack
+      (ownOf (the w p))
+      (a .from)
+      (record { ballot = a .b; cballot = the w p .core .cballot; clock = clockStamp P (the w p); table = the w p .core .table })
       → Origin P w p m i r
   o-news : (to : BoxNo) (a : Voting P w p) → leb (quorumOf P) (votesCount (the w p .volatile .vote)) ≡ true → box P w p m ≡ merges P w p a
-      → r ≡ new-state (ownOf (the w p)) to (record { ballot = the w p .core .ballot; clock = clockStamp P (merges P w p a); table = merges P w p a .core .table }) → Origin P w p m i r
+      → r
+      ≡ new-state (ownOf (the w p)) to (record { ballot = the w p .core .ballot; clock = clockStamp P (merges P w p a); table = merges P w p a .core .table })
+      → Origin P w p m i r
   o-nsa : (a : Stating P w p) → box P w p m ≡ followed (the w p) (a .y) → r ≡ newstate-ack (ownOf (the w p)) (a .from) (a .y .ballot) → Origin P w p m i r
 
 module _ (P : Plan) (w : World) (p : BoxNo) (known : p .0 < boxesOf P) (F : Forms P w) where
-  propose-asks : (a : Multicasting P w p) (n : rowAt (the w p) (a .j) .phase ≡ 0) → Asks P w p (m-propose a n) (a .j) (stamp (the w p .core .clock + 1) (homeIn P (the w p) .0))
+  propose-asks : (a : Multicasting P w p) (n : rowAt (the w p) (a .j) .phase ≡ 0)
+      → Asks P w p (m-propose a n) (a .j) (stamp (the w p .core .clock + 1) (homeIn P (the w p) .0))
   unfolding rowAt
   propose-asks a n =
       let e = proposed-is P w p known F a n in
@@ -99,7 +110,8 @@ module _ (P : Plan) (w : World) (p : BoxNo) (known : p .0 < boxesOf P) (F : Form
   again-asks a n = record { sound = a .sound; named = a .named; lead = a .lead; stamped = old-stamp n refl; cballot = refl; phase = n; local = refl }
 
   propose-sends : (a : Multicasting P w p) (n : rowAt (the w p) (a .j) .phase ≡ 0) {r : Rec} → In r (sent P w p (m-propose a n))
-      → (to : BoxNo) × (r ≡ accept (ownOf (the w p)) to (a .j) (record { ballot = the w p .core .cballot; stamp = stamp (the w p .core .clock + 1) (homeIn P (the w p) .0) }))
+      → (to : BoxNo)
+      × (r ≡ accept (ownOf (the w p)) to (a .j) (record { ballot = the w p .core .cballot; stamp = stamp (the w p .core .clock + 1) (homeIn P (the w p) .0) }))
   unfolding accepts rowAt
   propose-sends a n h =
       let z = in-each h in
@@ -107,7 +119,8 @@ module _ (P : Plan) (w : World) (p : BoxNo) (known : p .0 < boxesOf P) (F : Form
       let A = propose-asks a n in
       (z .to, z .is ∙ (λ i. accept (e i .core .own) (z .to) (a .j) (record { ballot = e i .core .cballot; stamp = A .local i })))
 
-  ack-is : (a : Accepting P w p) (to : BoxNo) → accept-ack (ownOf (accepted P (keeps P w p a) (a .j))) to (a .j) (keptVector P (accepted P (keeps P w p a) (a .j)) (a .j))
+  ack-is : (a : Accepting P w p) (to : BoxNo)
+      → accept-ack (ownOf (accepted P (keeps P w p a) (a .j))) to (a .j) (keptVector P (accepted P (keeps P w p a) (a .j)) (a .j))
       ≡ accept-ack (ownOf (the w p)) to (a .j) (keptVector P (keeps P w p a) (a .j))
   unfolding accepted kept keptVector keptFor keptBallot
   ack-is a to = refl
@@ -153,7 +166,8 @@ pub record DelNew (P : Plan) (w : World) (p : BoxNo) (m : Move P w p) (i j : ℕ
   pub ready-it : Rattle.boxes.specs.Ready.ready P y j ≡ true
   pub by : from ≡ ownOf y
   pub is : _≡_ {A = Handout} (record { ballot = b; local = s; global = t }) (handout y j)
-  pub first : (k : ℕ) → k < P .jobs → Rattle.boxes.specs.Ready.ready P y k ≡ true → Rattle.in_order.proofs.laws.Compare.Sooner (rowAt y k .global) (rowAt y j .global)
+  pub first : (k : ℕ) → k < P .jobs → Rattle.boxes.specs.Ready.ready P y k ≡ true
+      → Rattle.in_order.proofs.laws.Compare.Sooner (rowAt y k .global) (rowAt y j .global)
       → (i′ : ℕ) × (i′ < i) × DelAt (sent P w p m) i′ k (y .core .cballot) (rowAt y k .local) (rowAt y k .global)
 
 pub record VoteNew (P : Plan) (w : World) (p : BoxNo) (m : Move P w p) (q : BoxNo) (z : Ballotpaper) : Type 0 where
@@ -218,7 +232,8 @@ module _ (P : Plan) (w : World) (p : BoxNo) (known : p .0 < boxesOf P) (F : Form
       go (o-deliver y f H G) =
           let e = G .is in
           let ej : G .job ≡ j = cc in
-          record { y = y; hand-from = f; hand = H; low = rw ej at (G .low); ready-it = rw ej at (G .ready-it); by = cc; is = rw (← ej) (payload e); first = rw ej at (G .first) }
+          record
+          { y = y; hand-from = f; hand = H; low = rw ej at (G .low); ready-it = rw ej at (G .ready-it); by = cc; is = rw (← ej) (payload e); first = rw ej at (G .first) }
         where
           payload : {f₁ t₁ f₂ t₂ : BoxNo} {j₁ j₂ : ℕ} {y₁ y₂ : Handout} → deliver f₁ t₁ j₁ y₁ ≡ deliver f₂ t₂ j₂ y₂ → y₁ ≡ y₂
           payload e = cc

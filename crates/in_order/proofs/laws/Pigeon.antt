@@ -45,7 +45,12 @@ pigeon (suc n) (suc c) f low apart = go (look (someBelow (λ i. eqb (f i) n) (su
         g-apart : (k i : ℕ) → k < i → i < c → g k ≢ g i
         g-apart k i h l =
             pick-when (λ v. v ≢ g i) (eqb k i₀)
-            (λ t. pick-when (λ v. f c ≢ v) (eqb i i₀) (λ u. absurd (let a = eqb-true k i₀ t in let b = eqb-true i i₀ u in omega arith)) (λ u. differ c i (omega arith) (omega arith) (omega arith)))
+            (λ t.
+            pick-when
+            (λ v. f c ≢ v)
+            (eqb i i₀)
+            (λ u. absurd (let a = eqb-true k i₀ t in let b = eqb-true i i₀ u in omega arith))
+            (λ u. differ c i (omega arith) (omega arith) (omega arith)))
             (λ t. pick-when (λ v. f k ≢ v) (eqb i i₀) (λ u. differ k c (omega arith) (omega arith) (omega arith)) (λ u. apart k i h (omega arith)))
 
     go : (someBelow (λ i. eqb (f i) n) (suc c) ≡ true) ⊎ (someBelow (λ i. eqb (f i) n) (suc c) ≡ false) → Pigeon c → Pigeon (suc c) → suc c ≤ suc n

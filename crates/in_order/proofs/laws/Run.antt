@@ -254,7 +254,8 @@ module _ (P : Plan) (plan : planSound P ≡ true) where
       none p l i h = let e : the (new P) p .core .count ≡ 0 = ap (λ (x : BoxState). x .core .count) (box-is p l) ∙ fresh-count p in omega arith
 
   pub inv-new : Inv P (new P)
-  inv-new = record { forms = new-forms; ballots = new-ballots; volatiles = new-volatiles; holds = new-holds; locals = new-locals; acks = new-acks; hands = new-hands }
+  inv-new =
+      record { forms = new-forms; ballots = new-ballots; volatiles = new-volatiles; holds = new-holds; locals = new-locals; acks = new-acks; hands = new-hands }
 
 -- ---- any orders
 

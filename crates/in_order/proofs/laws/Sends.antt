@@ -7,8 +7,8 @@ use mathlib.Core.Logic.{_⊎_, inl, inr, ⊎-elim}
 use mathlib.Core.Path.{_≡_, refl}
 use native.Mathlib.Nat.{eq-or-lt-of-le}
 use native.Mathlib.Omega.{arith}
-use Rattle.laws.specs.Choice.{pick, pick-true}
-use Rattle.laws.proofs.laws.Choice.{pick-cases}
+use Rattle.laws.specs.Choice.{pick}
+use Rattle.laws.proofs.laws.Choice.{pick-true, pick-cases}
 use Rattle.laws.specs.Fold.{upto}
 use Rattle.laws.specs.Place.{In}
 use Rattle.laws.proofs.laws.Place.{in-nil, in-one, in-cases, in-left, in-right}
@@ -56,7 +56,8 @@ module _ (meant : BoxNo → Bool) (f : BoxNo → Rec) where
   in-below zero h = absurd (in-nil h)
   in-below (suc n) {r} h = go (in-cases (eachBelow n) (pick (meant (boxNo n)) (f (boxNo n) ∷ []) []) h) (λ k. in-below n k)
     where
-      go : In r (eachBelow n) ⊎ In r (pick (meant (boxNo n)) (f (boxNo n) ∷ []) []) → (In r (eachBelow n) → (q : BoxNo) × (q .0 < n) × (meant q ≡ true) × (r ≡ f q))
+      go : In r (eachBelow n) ⊎ In r (pick (meant (boxNo n)) (f (boxNo n) ∷ []) [])
+          → (In r (eachBelow n) → (q : BoxNo) × (q .0 < n) × (meant q ≡ true) × (r ≡ f q))
           → (q : BoxNo) × (q .0 < suc n) × (meant q ≡ true) × (r ≡ f q)
       go (inl i) g = let z = g i in let l = z .1 in (z .0, omega arith, z .2, z .3)
       go (inr i) g = let z = one-of (boxNo n) i in (boxNo n, omega arith, z .0, z .1)

@@ -10,8 +10,7 @@ use lib.Dec.{eqb}
 use lib.ListN.{length, set}
 use lib.Seq.{getD-set-same}
 use borrow.Author.Tests.{eqb-true}
-use Rattle.laws.proofs.laws.Choice.{look}
-use Rattle.laws.specs.Choice.{pick-true, pick-false}
+use Rattle.laws.proofs.laws.Choice.{look, pick-true, pick-false}
 use Rattle.house.specs.Pairs.{noRow, noStamp}
 use Rattle.house.proofs.laws.Orders.{ballotOrder}
 use Rattle.house.specs.declared.Stamp.{Stamp}
@@ -45,9 +44,11 @@ use Rattle.in_order.proofs.laws.CoreBase.{lam-one}
 use Rattle.in_order.proofs.laws.Facts.{cballot-upto}
 
 -- a later clock
-stay-clock : {P : Plan} {l : List Rec} {j : ℕ} {f : District → Ballot} {g : District} {k k′ : ℕ} {t : List Row} → k ≤ k′ → Stay P l j f g k t → Stay P l j f g k′ t
+stay-clock : {P : Plan} {l : List Rec} {j : ℕ} {f : District → Ballot} {g : District} {k k′ : ℕ} {t : List Row} → k ≤ k′ → Stay P l j f g k t
+    → Stay P l j f g k′ t
 stay-clock u h =
-    record { phase = h .phase; local = h .local; times = λ d n. let T = h .times d n in record { stamp = T .stamp; acc = T .acc; upto = (let q = T .upto in omega arith) } }
+    record
+    { phase = h .phase; local = h .local; times = λ d n. let T = h .times d n in record { stamp = T .stamp; acc = T .acc; upto = (let q = T .upto in omega arith) } }
 
 module _ (P : Plan) (w : World) (p : BoxNo) (known : p .0 < boxesOf P) (m : Move P w p) (I : Inv P w) (S : State P w) where
   F : Forms P w
@@ -67,7 +68,8 @@ module _ (P : Plan) (w : World) (p : BoxNo) (known : p .0 < boxesOf P) (m : Move
 
     pub new-entry : (d : District) → names P j d ≡ true → keptBallot (keeps P w p (N .a)) (N .a .j) d ≡ f d
     new-entry d n =
-        sym (vector-at P (keeps P w p (N .a)) (N .a .j) d (omega (arith, names-district P j d (F .plan) n, plan-says P (F .plan) .districts-most)) (named′ d n)) ∙ N .entries d n
+        sym (vector-at P (keeps P w p (N .a)) (N .a .j) d (omega (arith, names-district P j d (F .plan) n, plan-says P (F .plan) .districts-most)) (named′ d n))
+        ∙ N .entries d n
 
     pub new-acc : (d : District) → names P j d ≡ true → Acc (w .post) j (f d) (keptStamp (keeps P w p (N .a)) (N .a .j) d)
     new-acc d n =
@@ -97,7 +99,13 @@ module _ (P : Plan) (w : World) (p : BoxNo) (known : p .0 < boxesOf P) (m : Move
     unfolding accepted kept rowAt
     new-row =
         rw (← N .job) (ap (λ (x : BoxState). rowIn (x .core .table) (N .a .j)) (N .box-is)
-        ∙ getD-set-same (the w p .core .table) (N .a .j) _ noRow (omega (arith, names-job P (N .a .j) (homeIn P (the w p)) (N .a .named), plan-says P (F .plan) .jobs-most, F .box p known .table)))
+        ∙
+        getD-set-same
+        (the w p .core .table)
+        (N .a .j)
+        _
+        noRow
+        (omega (arith, names-job P (N .a .j) (homeIn P (the w p)) (N .a .named), plan-says P (F .plan) .jobs-most, F .box p known .table)))
 
     new-clock : box P w p m .core .clock ≡ raised (the w p .core .clock) (latestKept P (keeps P w p (N .a)) (N .a .j) (P .districts) .time)
     unfolding accepted kept
@@ -112,7 +120,12 @@ module _ (P : Plan) (w : World) (p : BoxNo) (known : p .0 < boxesOf P) (m : Move
     new-stay t = go t
       where
         times : (d : District) → names P j d ≡ true → Timed (w .post) j (f d) (box P w p m .core .clock)
-        times d n = record { stamp = keptStamp (keeps P w p (N .a)) (N .a .j) d; acc = new-acc d n; upto = rw new-clock (accept-time P w p known m I S (N .a) (N .all) d (named′ d n)) }
+        times d n =
+            record {
+              stamp = keptStamp (keeps P w p (N .a)) (N .a .j) d;
+              acc = new-acc d n;
+              upto = rw new-clock (accept-time P w p known m I S (N .a) (N .all) d (named′ d n));
+            }
 
         own-acc : Acc (w .post) j (the w p .core .cballot) (keptStamp (keeps P w p (N .a)) (N .a .j) (homeIn P (the w p)))
         own-acc = rw (new-home, ← new-ballot) (new-acc (homeOf P p) home-named)
@@ -126,7 +139,12 @@ module _ (P : Plan) (w : World) (p : BoxNo) (known : p .0 < boxesOf P) (m : Move
             let q : keptStamp (keeps P w p (N .a)) (N .a .j) (homeIn P (the w p)) ≡ rowIn (the w p .core .table) j .local = lam-one I (asked own-acc) L in
             record { phase = rw e (omega arith); local = rw (e, new-ballot, ← q) own-acc; times = times }
         go (inr t) =
-            let e : rowIn (box P w p m .core .table) j ≡ record { phase = 2; local = keptStamp (keeps P w p (N .a)) (N .a .j) (homeIn P (the w p)); global = noStamp } = new-row ∙ pick-false _ _ t in
+            let e : rowIn (box P w p m .core .table) j ≡ record {
+              phase =
+                  2;
+              local = keptStamp (keeps P w p (N .a)) (N .a .j) (homeIn P (the w p));
+              global = noStamp;
+            } = new-row ∙ pick-false _ _ t in
             record { phase = rw e (omega arith); local = rw (e, new-ballot) own-acc; times = times }
 
     new-acked : Acked P (next P w p m .post) j f (homeOf P p) (box P w p m .core .cballot) (box P w p m .core .clock) (box P w p m .core .table)
@@ -134,7 +152,8 @@ module _ (P : Plan) (w : World) (p : BoxNo) (known : p .0 < boxesOf P) (m : Move
         acked-up (grows P w p known F m)
         (record { below = eq-le ballotOrder (new-ballot ∙ sym new-cballot); stay = λ _. new-stay (look (eqb (rowIn (the w p .core .table) j .phase) 3)) })
 
-  a0′ : {q : BoxNo} {j : ℕ} {f : District → Ballot} → Ack P (next P w p m .post) q j f → (d : District) → names P j d ≡ true → Asked (next P w p m .post) j (f d)
+  a0′ : {q : BoxNo} {j : ℕ} {f : District → Ballot} → Ack P (next P w p m .post) q j f → (d : District) → names P j d ≡ true
+      → Asked (next P w p m .post) j (f d)
   a0′ {q} {j} {f} h d n = go (ack-cases (w .post) (sent P w p m) h)
     where
       go : Ack P (w .post) q j f ⊎ Ack P (sent P w p m) q j f → Asked (next P w p m .post) j (f d)
@@ -165,7 +184,8 @@ module _ (P : Plan) (w : World) (p : BoxNo) (known : p .0 < boxesOf P) (m : Move
       inside : k < length (the w p .core .table)
       inside = omega (arith, names-job P k (homeIn P (the w p)) n, plan-says P (F .plan) .jobs-most, F .box p known .table)
 
-      local : f (homeOf P p) ≡ the w p .core .cballot → Acc (w .post) j (f (homeOf P p)) (rowIn (the w p .core .table) j .local) → (s : Stamp) → Lam P (next P w p m .post) (the w p .core .cballot) j s
+      local : f (homeOf P p) ≡ the w p .core .cballot → Acc (w .post) j (f (homeOf P p)) (rowIn (the w p .core .table) j .local) → (s : Stamp)
+          → Lam P (next P w p m .post) (the w p .core .cballot) j s
           → Acc (next P w p m .post) j (f (homeOf P p)) s
       local e o s (asked i) = rw e i
       local e o s (stated z i ez lo nz q) =
@@ -179,7 +199,8 @@ module _ (P : Plan) (w : World) (p : BoxNo) (known : p .0 < boxesOf P) (m : Move
             phase = at-row (the w p .core .table) k r j (λ q. 2 ≤ q .phase) inside
                 (λ ej. row-j3 P w p known m I S (box P w p m) (next P w p m .post) B old k r n u y y (some ej (s .phase))) (λ _. s .phase);
             local = at-row (the w p .core .table) k r j (λ q. Acc (next P w p m .post) j (f (homeOf P p)) (q .local)) inside
-                (λ ej. local e (s .local) (r .local) (rw ej (row-lam P w p known m I S (box P w p m) (next P w p m .post) B old k r n u y y))) (λ _. acc-up B (s .local));
+                (λ ej. local e (s .local) (r .local) (rw ej (row-lam P w p known m I S (box P w p m) (next P w p m .post) B old k r n u y y)))
+                (λ _. acc-up B (s .local));
             times = λ d nd. let T = s .times d nd in record { stamp = T .stamp; acc = acc-up B (T .acc); upto = (let x = T .upto in omega arith) };
           }
         where
@@ -195,11 +216,21 @@ module _ (P : Plan) (w : World) (p : BoxNo) (known : p .0 < boxesOf P) (m : Move
   own-acked {j} {f} h (merged-it a q e N) =
       let A = I .acks .a1b h in
       let c : box P w p m .core .cballot ≡ the w p .core .ballot = ap (λ (x : BoxState). x .core .cballot) e in
-      let up : Lower (f (homeOf P p)) (box P w p m .core .cballot) = rw c (le-then-lt ballotOrder (A .below) (le-ne ballotOrder (cballot-upto (a .sound)) (a .pending))) in
+      let up : Lower (f (homeOf P p)) (box P w p m .core .cballot) =
+      rw c (le-then-lt ballotOrder (A .below) (le-ne ballotOrder (cballot-upto (a .sound)) (a .pending))) in
       record { below = lt-to-le ballotOrder up; stay = λ e. lt-self ballotOrder up e }
 
   a1b′ : {q : BoxNo} {j : ℕ} {f : District → Ballot} → Ack P (next P w p m .post) q j f
-      → Acked P (next P w p m .post) j f (homeOf P q) (the (next P w p m) q .core .cballot) (the (next P w p m) q .core .clock) (the (next P w p m) q .core .table)
+      →
+      Acked
+      P
+      (next P w p m .post)
+      j
+      f
+      (homeOf P q)
+      (the (next P w p m) q .core .cballot)
+      (the (next P w p m) q .core .clock)
+      (the (next P w p m) q .core .table)
   a1b′ {q} {j} {f} h = go (ack-cases (w .post) (sent P w p m) h)
     where
       Says : BoxNo → BoxState → Type 0
@@ -211,7 +242,8 @@ module _ (P : Plan) (w : World) (p : BoxNo) (known : p .0 < boxesOf P) (m : Move
           (λ r o′. acked-up (grows P w p known F m) (I .acks .a1b o′)) q o
       go (inr n) = let N = ack-new P w p known F m n in rw (new-by N, mover P w p known F m) (new-acked N)
 
-  a1v′ : {q : BoxNo} {j : ℕ} {f : District → Ballot} {z : Ballotpaper} → Ack P (next P w p m .post) q j f → Voted (next P w p m .post) q z → Lower (f (homeOf P q)) (z .ballot)
+  a1v′ : {q : BoxNo} {j : ℕ} {f : District → Ballot} {z : Ballotpaper} → Ack P (next P w p m .post) q j f → Voted (next P w p m .post) q z
+      → Lower (f (homeOf P q)) (z .ballot)
       → Acked P (next P w p m .post) j f (homeOf P q) (z .cballot) (z .clock .time) (z .table)
   unfolding joined clockStamp
   a1v′ {q} {j} {f} {z} h v lo = go (voted-cases (w .post) (sent P w p m) v) (ack-cases (w .post) (sent P w p m) h)
@@ -231,8 +263,15 @@ module _ (P : Plan) (w : World) (p : BoxNo) (known : p .0 < boxesOf P) (m : Move
           let e : q ≡ p = N .by ∙ own-is P w p known F m in
           let A = a1b′ h in
           let A′ : Acked P (next P w p m .post) j f (homeOf P q) (box P w p m .core .cballot) (box P w p m .core .clock) (box P w p m .core .table)
-          = subst (λ (y : BoxState). Acked P (next P w p m .post) j f (homeOf P q) (y .core .cballot) (y .core .clock) (y .core .table)) (ap (the (next P w p m)) e ∙ mover P w p known F m) A in
-          rw (N .is) (subst (λ (y : BoxState). Acked P (next P w p m .post) j f (homeOf P q) (y .core .cballot) (y .core .clock) (y .core .table)) (N .box-is) A′)
+          =
+          subst
+          (λ (y : BoxState). Acked P (next P w p m .post) j f (homeOf P q) (y .core .cballot) (y .core .clock) (y .core .table))
+          (ap (the (next P w p m)) e ∙ mover P w p known F m)
+          A
+          in
+          rw
+          (N .is)
+          (subst (λ (y : BoxState). Acked P (next P w p m .post) j f (homeOf P q) (y .core .cballot) (y .core .clock) (y .core .table)) (N .box-is) A′)
 
   -- ---- I3d
 
@@ -242,7 +281,9 @@ module _ (P : Plan) (w : World) (p : BoxNo) (known : p .0 < boxesOf P) (m : Move
       let H = held-mid P w p known m I S (N .y) (N .hand-from) in
       let G = H .i3 j (N .low) (ready-says P (N .y) j (N .ready-it) .phase) in
       let e : b ≡ N .y .core .cballot = ap (λ (o : Handout). o .ballot) (N .is) in
-      let o : homeOf P (b .owner) ≡ homeOf P p = ap (λ (c : Ballot). homeOf P (c .owner)) (e ∙ hand-ballot P w p known m I (N .y) (N .hand-from)) ∙ sym (ap (homeOf P) (hand-head P w p known m I (N .y) (N .hand-from))) in
+      let o : homeOf P (b .owner) ≡ homeOf P p =
+      ap (λ (c : Ballot). homeOf P (c .owner)) (e ∙ hand-ballot P w p known m I (N .y) (N .hand-from))
+      ∙ sym (ap (homeOf P) (hand-head P w p known m I (N .y) (N .hand-from))) in
       rw (o, ap (λ (o : Handout). o .local) (N .is), ap (λ (o : Handout). o .global) (N .is), e) G
 
   i3d′ : {j : ℕ} {b : Ballot} {s t : Stamp} → Del (next P w p m .post) j b s t → Final P (next P w p m .post) j (homeOf P (b .owner)) b s t

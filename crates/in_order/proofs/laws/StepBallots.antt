@@ -105,7 +105,8 @@ module _ (P : Plan) (w : World) (p : BoxNo) (known : p .0 < boxesOf P) (m : Move
   pub no-news-yet : (a : Voting P w p) {A : Type 0} → NewsOf (w .post) (the w p .core .ballot) → A
   no-news-yet a o =
       let q : o .state .ballot .owner ≡ p = ap (λ (b : Ballot). b .owner) (o .ballot) ∙ merger a in
-      let u : Upto (o .state .ballot) (the w p .core .cballot) = subst (λ (r : BoxNo). Upto (o .state .ballot) (the w r .core .cballot)) q (I .ballots .b2 (o .news)) in
+      let u : Upto (o .state .ballot) (the w p .core .cballot) =
+      subst (λ (r : BoxNo). Upto (o .state .ballot) (the w r .core .cballot)) q (I .ballots .b2 (o .news)) in
       lt-not ballotOrder (merger-low a) (rw (o .ballot) at u)
 
   -- so a new NEW_STATE is of a ballot that had none
@@ -143,7 +144,8 @@ module _ (P : Plan) (w : World) (p : BoxNo) (known : p .0 < boxesOf P) (m : Move
       go (inl o) = news-of-up (grows P w p known F m) (I .ballots .b4-news o)
       go (inr n) =
           let N = nsa-new P w p known F m n in
-          record { state = N .a .y; ballot = sym (N .ballot); news = news-up (grows P w p known F m) (record { from = N .a .from; to = p; there = N .a .there }) }
+          record
+          { state = N .a .y; ballot = sym (N .ballot); news = news-up (grows P w p known F m) (record { from = N .a .from; to = p; there = N .a .there }) }
 
   b4-upto′ : {q : BoxNo} {b : Ballot} → Nsa (next P w p m .post) q b → Upto b (the (next P w p m) q .core .cballot)
   unfolding followed
@@ -153,7 +155,9 @@ module _ (P : Plan) (w : World) (p : BoxNo) (known : p .0 < boxesOf P) (m : Move
       go (inl o) = le-le ballotOrder (I .ballots .b4-upto o) (cballot-up P w p known F m q)
       go (inr n) =
           let N = nsa-new P w p known F m n in
-          rw (N .by ∙ own) (at-mover (λ y. Upto b (y .core .cballot)) (eq-le ballotOrder (N .ballot ∙ sym (ap (λ (y : BoxState). y .core .cballot) (N .box-is)))))
+          rw
+          (N .by ∙ own)
+          (at-mover (λ y. Upto b (y .core .cballot)) (eq-le ballotOrder (N .ballot ∙ sym (ap (λ (y : BoxState). y .core .cballot) (N .box-is)))))
 
   -- ---- B5
 
@@ -162,7 +166,10 @@ module _ (P : Plan) (w : World) (p : BoxNo) (known : p .0 < boxesOf P) (m : Move
   joined-upto {q} {b} (heads e h) =
       let u = b2′ (h .news) in
       let o : h .state .ballot .owner ≡ q = ap (λ (c : Ballot). c .owner) (h .ballot) ∙ sym e in
-      subst (λ (c : Ballot). Upto c (the (next P w p m) q .core .cballot)) (h .ballot) (subst (λ (r : BoxNo). Upto (h .state .ballot) (the (next P w p m) r .core .cballot)) o u)
+      subst
+      (λ (c : Ballot). Upto c (the (next P w p m) q .core .cballot))
+      (h .ballot)
+      (subst (λ (r : BoxNo). Upto (h .state .ballot) (the (next P w p m) r .core .cballot)) o u)
 
   -- an old joining, or one by the mover of its own ballot
   data Join (q : BoxNo) (b : Ballot) : Type 0 where
@@ -184,7 +191,8 @@ module _ (P : Plan) (w : World) (p : BoxNo) (known : p .0 < boxesOf P) (m : Move
           let eb : b ≡ the w p .core .ballot = sym (h .ballot) ∙ ap (λ (s : NewState). s .ballot) (N .is) in
           join-new (e ∙ ap (λ (c : Ballot). c .owner) eb ∙ merger (N .a)) eb
 
-  b5′ : {q : BoxNo} {b : Ballot} {z : Ballotpaper} → Joined (next P w p m .post) q b → Voted (next P w p m .post) q z → Lower b (z .ballot) → Upto b (z .cballot)
+  b5′ : {q : BoxNo} {b : Ballot} {z : Ballotpaper} → Joined (next P w p m .post) q b → Voted (next P w p m .post) q z → Lower b (z .ballot)
+      → Upto b (z .cballot)
   unfolding joined
   b5′ {q} {b} {z} j h l = go (voted-cases (w .post) (sent P w p m) h)
     where
@@ -198,7 +206,12 @@ module _ (P : Plan) (w : World) (p : BoxNo) (known : p .0 < boxesOf P) (m : Move
       go (inl o) = old o (join j)
       go (inr n) =
           let N = vote-new P w p known F m n in
-          let c : the (next P w p m) q .core .cballot ≡ z .cballot = rw (N .by ∙ own) (at-mover (λ y. y .core .cballot ≡ z .cballot) (ap (λ (y : BoxState). y .core .cballot) (N .box-is) ∙ sym (ap (λ (c : Ballotpaper). c .cballot) (N .is)))) in
+          let c : the (next P w p m) q .core .cballot ≡ z .cballot =
+          rw
+          (N .by ∙ own)
+          (at-mover
+          (λ y. y .core .cballot ≡ z .cballot)
+          (ap (λ (y : BoxState). y .core .cballot) (N .box-is) ∙ sym (ap (λ (c : Ballotpaper). c .cballot) (N .is)))) in
           rw c at (joined-upto j)
 
   -- ---- B6: quorums that joined
@@ -209,7 +222,15 @@ module _ (P : Plan) (w : World) (p : BoxNo) (known : p .0 < boxesOf P) (m : Move
       let h : Nsa (w .post) (a .from) (the w p .core .cballot) = record { to = p; there = rw (a .current) at (a .there) } in
       let o : the w p .core .cballot .owner ≡ p = sym (ap (λ (b : Ballot). b .owner) (a .current)) ∙ a .facts .theirs in
       let N = a .facts .apart .near in
-      pair (F .plan) (a .from) p (N .from-box) (N .to-box) (N .home ∙ sym (ap (λ (q : BoxNo). homeOf P q) o)) (sym (ap (λ (q : BoxNo). homeOf P q) o)) (a .facts .apart .other)
+      pair
+      (F .plan)
+      (a .from)
+      p
+      (N .from-box)
+      (N .to-box)
+      (N .home ∙ sym (ap (λ (q : BoxNo). homeOf P q) o))
+      (sym (ap (λ (q : BoxNo). homeOf P q) o))
+      (a .facts .apart .other)
       (follows h) (heads (sym o) (I .ballots .b4-news h))
 
   b6l′ : (q : BoxNo) → q .0 < boxesOf P → isLeader (the (next P w p m) q .core .status) ≡ true
@@ -251,13 +272,15 @@ module _ (P : Plan) (w : World) (p : BoxNo) (known : p .0 < boxesOf P) (m : Move
 
   -- ---- B7
 
-  b7′ : (q : BoxNo) → q .0 < boxesOf P → isRecovering (the (next P w p m) q .core .status) ≡ true → the (next P w p m) q .core .cballot ≡ the (next P w p m) q .core .ballot
+  b7′ : (q : BoxNo) → q .0 < boxesOf P → isRecovering (the (next P w p m) q .core .status) ≡ true
+      → the (next P w p m) q .core .cballot ≡ the (next P w p m) q .core .ballot
       → q ≡ the (next P w p m) q .core .ballot .owner
   b7′ =
       boxes-next P w p known F m (λ q y. isRecovering (y .core .status) ≡ true → y .core .cballot ≡ y .core .ballot → q ≡ y .core .ballot .owner)
       (go (mode P w p known F m)) (I .ballots .b7)
     where
-      go : ModeStep P w p (box P w p m) → isRecovering (box P w p m .core .status) ≡ true → box P w p m .core .cballot ≡ box P w p m .core .ballot → p ≡ box P w p m .core .ballot .owner
+      go : ModeStep P w p (box P w p m) → isRecovering (box P w p m .core .status) ≡ true → box P w p m .core .cballot ≡ box P w p m .core .ballot
+          → p ≡ box P w p m .core .ballot .owner
       go (mode-same b c s) t e = I .ballots .b7 p known (rw s at t) (sym c ∙ e ∙ b) ∙ sym (ap (λ (d : Ballot). d .owner) b)
       go (mode-join a b c s n) t e =
           lt-not ballotOrder (a .above) (subst (λ (d : Ballot). Upto d (the w p .core .ballot)) (sym c ∙ e ∙ b) (cballot-upto (a .sound)))

@@ -41,9 +41,12 @@ use Rattle.in_order.proofs.laws.Grow.{acc-cases, ack-cases, voted-cases
 use Rattle.in_order.proofs.laws.Laws.{kept-apart, real-some}
 use Rattle.in_order.proofs.laws.Merging.{merged-length}
 use Rattle.in_order.proofs.laws.StepVolatile.{kept-here, kept-there}
-use Rattle.in_order.proofs.laws.Moves.{commits, Accepting, Acking, Move, m-post, m-retry, m-stand, m-cut, m-propose, m-again, m-keep, m-accept, m-mark, m-commit, m-deliver, m-join, m-hold, m-merge, m-state, m-lead, keeps, box, sent, next}
-use Rattle.in_order.proofs.laws.Steps.{Hand, commit-hands, lead-hands, proposed-is, ModeStep, mode-same, mode-join, mode-merge, mode-state, mode-lead, mode}
-use Rattle.in_order.proofs.laws.Origins.{Stamped, new-stamp, old-stamp, HandFrom, by-commit, by-lead, AccNew, acc-new, AckNew, ack-new, DelNew, del-new, VoteNew, vote-new, NewsNew, news-new, NsaNew, nsa-new}
+use Rattle.in_order.proofs.laws.Moves.{commits, Accepting, Acking, Move, m-post, m-retry, m-stand, m-cut, m-propose, m-again, m-keep, m-accept, m-mark}
+use Rattle.in_order.proofs.laws.Moves.{m-commit, m-deliver, m-join, m-hold, m-merge, m-state, m-lead, keeps, box, sent, next}
+use Rattle.in_order.proofs.laws.Steps.{Hand, commit-hands, lead-hands, proposed-is, ModeStep, mode-same, mode-join, mode-merge, mode-state, mode-lead}
+use Rattle.in_order.proofs.laws.Steps.{mode}
+use Rattle.in_order.proofs.laws.Origins.{Stamped, new-stamp, old-stamp, HandFrom, by-commit, by-lead, AccNew, acc-new, AckNew, ack-new, DelNew, del-new}
+use Rattle.in_order.proofs.laws.Origins.{VoteNew, vote-new, NewsNew, news-new, NsaNew, nsa-new}
 use Rattle.in_order.proofs.laws.Next.{boxes-next, own-is}
 use Rattle.in_order.proofs.laws.StepBallots.{merger}
 use Rattle.in_order.proofs.laws.StepLocals.{hand-head}
@@ -53,7 +56,8 @@ use Rattle.in_order.proofs.laws.StepLists.{room}
 use Rattle.in_order.proofs.laws.Facts.{leads-own, leads-real, own-low, local-home, owner-home, cballot-upto}
 
 -- the own number and the lengths of a box, over the fields that they speak of
-record Sizes (p own : BoxNo) (table : List Row) (sent : List Bool) (list : List Listed) (count : ℕ) (kept-ballots : List Ballot) (kept-stamps : List Stamp) (marks : List ℕ) : Type 0 where
+record Sizes (p own : BoxNo) (table : List Row) (sent : List Bool) (list : List Listed) (count : ℕ) (kept-ballots : List Ballot) (kept-stamps : List Stamp)
+    (marks : List ℕ) : Type 0 where
   own-is : own ≡ p
   table-is : length table ≡ mostJobs
   sent-is : length sent ≡ mostJobs
@@ -64,20 +68,33 @@ record Sizes (p own : BoxNo) (table : List Row) (sent : List Bool) (list : List 
   marks-are : length marks ≡ mostJobs
 
 abbrev SizesOf : BoxNo → BoxState → Type 0
-SizesOf p x = Sizes p (x .core .own) (x .core .table) (x .core .sent) (x .core .list) (x .core .count) (x .volatile .«kept_ballots») (x .volatile .«kept_stamps») (x .volatile .marks)
+SizesOf p x =
+    Sizes
+    p
+    (x .core .own)
+    (x .core .table)
+    (x .core .sent)
+    (x .core .list)
+    (x .core .count)
+    (x .volatile .«kept_ballots»)
+    (x .volatile .«kept_stamps»)
+    (x .volatile .marks)
 
 -- another table, other flags, a longer list, another volatile part
-module _ {p o : BoxNo} {t : List Row} {f : List Bool} {l : List Listed} {c : ℕ} {kb : List Ballot} {ks : List Stamp} {mk : List ℕ} (B : Sizes p o t f l c kb ks mk) where
+module _ {p o : BoxNo} {t : List Row} {f : List Bool} {l : List Listed} {c : ℕ} {kb : List Ballot} {ks : List Stamp} {mk : List ℕ}
+    (B : Sizes p o t f l c kb ks mk) where
   with-table : {t′ : List Row} → length t′ ≡ mostJobs → Sizes p o t′ f l c kb ks mk
   with-table e =
-      record { own-is = B .own-is; table-is = e; sent-is = B .sent-is; list-is = B .list-is; count-is = B .count-is; ballots-are = B .ballots-are; stamps-are = B .stamps-are; marks-are = B .marks-are }
+      record
+      { own-is = B .own-is; table-is = e; sent-is = B .sent-is; list-is = B .list-is; count-is = B .count-is; ballots-are = B .ballots-are; stamps-are = B .stamps-are; marks-are = B .marks-are }
 
   with-row : (j : ℕ) (r : Row) → Sizes p o (set t j r) f l c kb ks mk
   with-row j r = with-table (length-set t j r ∙ B .table-is)
 
   with-sent : {f′ : List Bool} → length f′ ≡ mostJobs → Sizes p o t f′ l c kb ks mk
   with-sent e =
-      record { own-is = B .own-is; table-is = B .table-is; sent-is = e; list-is = B .list-is; count-is = B .count-is; ballots-are = B .ballots-are; stamps-are = B .stamps-are; marks-are = B .marks-are }
+      record
+      { own-is = B .own-is; table-is = B .table-is; sent-is = e; list-is = B .list-is; count-is = B .count-is; ballots-are = B .ballots-are; stamps-are = B .stamps-are; marks-are = B .marks-are }
 
   with-listed : (i : ℕ) (x : Listed) → c < mostJobs → Sizes p o t f (set l i x) (c + 1) kb ks mk
   with-listed i x h =
@@ -92,10 +109,12 @@ module _ {p o : BoxNo} {t : List Row} {f : List Bool} {l : List Listed} {c : ℕ
         marks-are = B .marks-are;
       }
 
-  with-volatile : {kb′ : List Ballot} {ks′ : List Stamp} {mk′ : List ℕ} → length kb′ ≡ mostJobs * mostDistricts → length ks′ ≡ mostJobs * mostDistricts → length mk′ ≡ mostJobs
+  with-volatile : {kb′ : List Ballot} {ks′ : List Stamp} {mk′ : List ℕ} → length kb′ ≡ mostJobs * mostDistricts → length ks′ ≡ mostJobs * mostDistricts
+      → length mk′ ≡ mostJobs
       → Sizes p o t f l c kb′ ks′ mk′
   with-volatile a b e =
-      record { own-is = B .own-is; table-is = B .table-is; sent-is = B .sent-is; list-is = B .list-is; count-is = B .count-is; ballots-are = a; stamps-are = b; marks-are = e }
+      record
+      { own-is = B .own-is; table-is = B .table-is; sent-is = B .sent-is; list-is = B .list-is; count-is = B .count-is; ballots-are = a; stamps-are = b; marks-are = e }
 
   with-kept : (i : ℕ) (b : Ballot) (s : Stamp) (j m : ℕ) → Sizes p o t f l c (set kb i b) (set ks i s) (set mk j m)
   with-kept i b s j m = with-volatile (length-set kb i b ∙ B .ballots-are) (length-set ks i s ∙ B .stamps-are) (length-set mk j m ∙ B .marks-are)
@@ -110,7 +129,8 @@ module _ (P : Plan) (w : World) (p : BoxNo) (known : p .0 < boxesOf P) (I : Inv 
   old-sizes : SizesOf p (the w p)
   old-sizes =
       let B = F .box p known in
-      record { own-is = B .own; table-is = B .table; sent-is = B .sent; list-is = B .list; count-is = B .count; ballots-are = B .kept-ballots; stamps-are = B .kept-stamps; marks-are = B .marks }
+      record
+      { own-is = B .own; table-is = B .table; sent-is = B .sent; list-is = B .list; count-is = B .count; ballots-are = B .kept-ballots; stamps-are = B .kept-stamps; marks-are = B .marks }
 
   hand-sizes : (m : Move P w p) (y : BoxState) → SizesOf p y → Hand P w p m y → SizesOf p (box P w p m)
   hand-sizes m y B K = rw (K .box-is) (with-sent B (K .turned .size ∙ B .sent-is))
@@ -139,7 +159,9 @@ module _ (P : Plan) (w : World) (p : BoxNo) (known : p .0 < boxesOf P) (I : Inv 
   new-sizes (m-join a) = old-sizes
   new-sizes (m-hold a) = old-sizes
   new-sizes (m-merge a q) =
-      with-sent (with-table old-sizes (merged-length (votesWith (the w p .volatile .vote) (voteOf (a .from) (a .y))) (P .jobs))) (length-replicate mostJobs false)
+      with-sent
+      (with-table old-sizes (merged-length (votesWith (the w p .volatile .vote) (voteOf (a .from) (a .y))) (P .jobs)))
+      (length-replicate mostJobs false)
   new-sizes (m-state a) = with-table old-sizes (F .news (record { from = a .from; to = p; there = a .there }) .table)
   new-sizes (m-lead a) = hand-sizes (m-lead a) (leading (the w p)) lead-sizes (lead-hands P w p known F a)
 
@@ -168,8 +190,10 @@ module _ (P : Plan) (w : World) (p : BoxNo) (known : p .0 < boxesOf P) (m : Move
         bhome = λ _. rw b (ap (homeOf P) (a .facts .mine) ∙ a .facts .near .home);
         chome = rw c (B .chome);
       }
-  new-homes (mode-merge a b c s) = let B = G .box p known in record { order = rw (b, c) (le-refl ballotOrder); bhome = rw b (B .bhome); chome = rw c (B .bhome) }
-  new-homes (mode-state a b c s t) = let B = G .box p known in record { order = rw (b, c, a .same) (le-refl ballotOrder); bhome = rw b (B .bhome); chome = rw (c, a .same) (B .bhome) }
+  new-homes (mode-merge a b c s) =
+      let B = G .box p known in record { order = rw (b, c) (le-refl ballotOrder); bhome = rw b (B .bhome); chome = rw c (B .bhome) }
+  new-homes (mode-state a b c s t) =
+      let B = G .box p known in record { order = rw (b, c, a .same) (le-refl ballotOrder); bhome = rw b (B .bhome); chome = rw (c, a .same) (B .bhome) }
   new-homes (mode-lead a b c s) = let B = G .box p known in record { order = rw (b, c) (B .order); bhome = rw b (B .bhome); chome = rw c (B .chome) }
 
   own-form : BoxForm P p (box P w p m)
@@ -209,7 +233,8 @@ module _ (P : Plan) (w : World) (p : BoxNo) (known : p .0 < boxesOf P) (m : Move
       stamped (old-stamp n e) = ap (λ (t : Stamp). t .district) e ∙ local-home (N .asks .sound) j (names-job P j (homeIn P (the w p)) (N .asks .named)) n
 
   -- a kept ballot is of a box of its district
-  kept-home : (a : Accepting P w p) (d : District) → names P (a .j) d ≡ true → 1 ≤ keptBallot (keeps P w p a) (a .j) d .number → homeOf P (keptBallot (keeps P w p a) (a .j) d .owner) ≡ d
+  kept-home : (a : Accepting P w p) (d : District) → names P (a .j) d ≡ true → 1 ≤ keptBallot (keeps P w p a) (a .j) d .number
+      → homeOf P (keptBallot (keeps P w p a) (a .j) d .owner) ≡ d
   unfolding keptBallot
   kept-home a d n r = go (ℕ-discrete (keptAt (a .j) d) (keptAt (a .j) (homeOf P (a .from))))
     where
@@ -227,7 +252,14 @@ module _ (P : Plan) (w : World) (p : BoxNo) (known : p .0 < boxesOf P) (m : Move
           let q = kept-there P w p known m I a (a .j) d e in
           let r′ = rw q at r in
           ap (λ (b : Ballot). homeOf P (b .owner)) q
-          ∙ owner-home (a .sound) (a .j) d (omega (arith, names-job P (a .j) (homeIn P (the w p)) (a .named), plan-says P (G .plan) .jobs-most)) ld (real-some (keptBallot (the w p) (a .j) d) r′)
+          ∙
+          owner-home
+          (a .sound)
+          (a .j)
+          d
+          (omega (arith, names-job P (a .j) (homeIn P (the w p)) (a .named), plan-says P (G .plan) .jobs-most))
+          ld
+          (real-some (keptBallot (the w p) (a .j) d) r′)
 
   ack-form : {q : BoxNo} {j : ℕ} {f : District → Ballot} → AckNew P w p m q j f → AckForm P q j f
   ack-form {q} {j} {f} N =
@@ -277,7 +309,10 @@ module _ (P : Plan) (w : World) (p : BoxNo) (known : p .0 < boxesOf P) (m : Move
 
   nsa-form : {q : BoxNo} {b : Ballot} → NsaNew P w p m q b → homeOf P q ≡ homeOf P (b .owner)
   nsa-form {q} {b} N =
-      ap (homeOf P) (N .by ∙ own-is P w p known G m) ∙ sym (N .a .facts .apart .near .home) ∙ sym (ap (homeOf P) (N .a .facts .mine)) ∙ sym (ap (λ (c : Ballot). homeOf P (c .owner)) (N .ballot))
+      ap (homeOf P) (N .by ∙ own-is P w p known G m)
+      ∙ sym (N .a .facts .apart .near .home)
+      ∙ sym (ap (homeOf P) (N .a .facts .mine))
+      ∙ sym (ap (λ (c : Ballot). homeOf P (c .owner)) (N .ballot))
 
   pub forms-step : Forms P (next P w p m)
   forms-step =
@@ -293,7 +328,8 @@ module _ (P : Plan) (w : World) (p : BoxNo) (known : p .0 < boxesOf P) (m : Move
         nsa = λ h. ⊎-elim (λ o. G .nsa o) (λ n. nsa-form (nsa-new P w p known G m n)) (nsa-cases (w .post) (sent P w p m) h);
       }
     where
-      dels : {j : ℕ} {b : Ballot} {s t : Stamp} (h : Del (next P w p m .post) j b s t) → In (deliver (h .from) (h .to) j (record { ballot = b; local = s; global = t })) (w .post)
+      dels : {j : ℕ} {b : Ballot} {s t : Stamp} (h : Del (next P w p m .post) j b s t)
+          → In (deliver (h .from) (h .to) j (record { ballot = b; local = s; global = t })) (w .post)
           ⊎ In (deliver (h .from) (h .to) j (record { ballot = b; local = s; global = t })) (sent P w p m) → DelForm P (h .from) b
       dels h (inl o) = G .del (record { from = h .from; to = h .to; there = o })
       dels h (inr n) = del-form (del-new P w p known G m {i = n .place} (record { from = h .from; to = h .to; there = n .there }))

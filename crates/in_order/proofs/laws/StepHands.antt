@@ -40,13 +40,15 @@ use Rattle.in_order.proofs.laws.Notions.{the, rowIn, Ack, Del, DelAt, L
 use Rattle.in_order.proofs.laws.Inv.{Forms, Held, Handed, later, earlier, Before, Inv, State}
 use Rattle.in_order.proofs.laws.Grow.{del-cases, del-up, del-at-up, before-up, cert-up, lam-up}
 use Rattle.in_order.proofs.laws.HandOut.{Ready, ready-says, ready-is, above-says, above-down, open-is, handout}
-use Rattle.in_order.proofs.laws.Moves.{Voting, Stating, Move, m-post, m-retry, m-stand, m-cut, m-propose, m-again, m-keep, m-accept, m-mark, m-commit, m-deliver, m-join, m-hold, m-merge, m-state, m-lead, commits, box, sent, next}
+use Rattle.in_order.proofs.laws.Moves.{Voting, Stating, Move, m-post, m-retry, m-stand, m-cut, m-propose, m-again, m-keep, m-accept, m-mark, m-commit}
+use Rattle.in_order.proofs.laws.Moves.{m-deliver, m-join, m-hold, m-merge, m-state, m-lead, commits, box, sent, next}
 use Rattle.in_order.proofs.laws.Steps.{Hand, commit-hands, lead-hands, proposed-is}
 use Rattle.in_order.proofs.laws.Origins.{Stamped, new-stamp, old-stamp, Asks, HandFrom, by-commit, by-lead, AccNew, acc-new, DelNew, del-new, news-new}
 use Rattle.in_order.proofs.laws.Next.{grows, mover, others-next}
 use Rattle.in_order.proofs.laws.StepBallots.{no-news-yet, fresh-news}
 use Rattle.in_order.proofs.laws.StepHolds.{held-mid, at-row}
-use Rattle.in_order.proofs.laws.StepLocals.{LamStep, lam-old, lam-state, lam-ask, lam-step, leader-waits, l1-next, head, low, hand-ballot, hand-sent, hand-head, at-place}
+use Rattle.in_order.proofs.laws.StepLocals.{LamStep, lam-old, lam-state, lam-ask, lam-step, leader-waits, l1-next, head, low, hand-ballot, hand-sent}
+use Rattle.in_order.proofs.laws.StepLocals.{hand-head, at-place}
 use Rattle.in_order.proofs.laws.StepAcks.{final-new}
 use Rattle.in_order.proofs.laws.CoreBase.{lam-one, del-news, lam-job}
 use Rattle.in_order.proofs.laws.Commit.{own-mark, kept-own}
@@ -66,7 +68,8 @@ module _ (P : Plan) (w : World) (p : BoxNo) (known : p .0 < boxesOf P) (F : Form
   flag-step (m-retry j) = flag-same refl refl
   flag-step m-stand = flag-same refl refl
   flag-step m-cut = flag-same refl refl
-  flag-step (m-propose a n) = let e = proposed-is P w p known F a n in flag-same (ap (λ (x : BoxState). x .core .sent) e) (ap (λ (x : BoxState). x .core .cballot) e)
+  flag-step (m-propose a n) =
+      let e = proposed-is P w p known F a n in flag-same (ap (λ (x : BoxState). x .core .sent) e) (ap (λ (x : BoxState). x .core .cballot) e)
   flag-step (m-again a n) = flag-same refl refl
   flag-step (m-keep a) = flag-same refl refl
   flag-step (m-accept a f) = flag-same refl refl
@@ -107,7 +110,8 @@ module _ (P : Plan) (w : World) (p : BoxNo) (known : p .0 < boxesOf P) (m : Move
   unfolding sentAt
   sent-new {i} {j} h = let N = del-new P w p known F m h in rw (ap (λ (x : BoxState). x .core .sent) (N .hand .box-is)) (N .hand .turned .flags i (h .there))
 
-  sent-old : FlagStep P w p m → p ≡ box P w p m .core .cballot .owner → (j : ℕ) (s t : Stamp) → Del (w .post) j (box P w p m .core .cballot) s t → sentAt (box P w p m) j ≡ true
+  sent-old : FlagStep P w p m → p ≡ box P w p m .core .cballot .owner → (j : ℕ) (s t : Stamp) → Del (w .post) j (box P w p m .core .cballot) s t
+      → sentAt (box P w p m) j ≡ true
   unfolding sentAt
   sent-old (flag-same e c) o j s t h = rw e (I .hands .i6-sent p known (o ∙ ap (λ (b : Ballot). b .owner) c) (rw c at h))
   sent-old (flag-state a c) o j s t h = absurd (a .facts .apart .other (sym (a .facts .mine) ∙ sym (ap (λ (b : Ballot). b .owner) c) ∙ sym o))
@@ -117,13 +121,22 @@ module _ (P : Plan) (w : World) (p : BoxNo) (known : p .0 < boxesOf P) (m : Move
       rw (ap (λ (x : BoxState). x .core .sent) (K .box-is))
       (K .turned .stays j (hand-sent P w p known m I y f j ∙ I .hands .i6-sent p known (hand-head P w p known m I y f) (rw c at h)))
 
-  pub i6-sent-next : (q : BoxNo) → q .0 < boxesOf P → q ≡ the (next P w p m) q .core .cballot .owner → (j : ℕ) (s t : Stamp) → Del (next P w p m .post) j (the (next P w p m) q .core .cballot) s t
+  pub i6-sent-next : (q : BoxNo) → q .0 < boxesOf P → q ≡ the (next P w p m) q .core .cballot .owner → (j : ℕ) (s t : Stamp)
+      → Del (next P w p m .post) j (the (next P w p m) q .core .cballot) s t
       → sentAt (the (next P w p m) q) j ≡ true
   i6-sent-next =
-      others-next P w p known F m (λ q y. q ≡ y .core .cballot .owner → (j : ℕ) (s t : Stamp) → Del (next P w p m .post) j (y .core .cballot) s t → sentAt y j ≡ true)
+      others-next
+      P
+      w
+      p
+      known
+      F
+      m
+      (λ q y. q ≡ y .core .cballot .owner → (j : ℕ) (s t : Stamp) → Del (next P w p m .post) j (y .core .cballot) s t → sentAt y j ≡ true)
       (λ o j s t h. mine o j s t (del-cases (w .post) (sent P w p m) h)) (λ q l n o j s t h. theirs q l n o j s t (del-cases (w .post) (sent P w p m) h))
     where
-      mine : p ≡ box P w p m .core .cballot .owner → (j : ℕ) (s t : Stamp) → Del (w .post) j (box P w p m .core .cballot) s t ⊎ Del (sent P w p m) j (box P w p m .core .cballot) s t
+      mine : p ≡ box P w p m .core .cballot .owner → (j : ℕ) (s t : Stamp)
+          → Del (w .post) j (box P w p m .core .cballot) s t ⊎ Del (sent P w p m) j (box P w p m .core .cballot) s t
           → sentAt (box P w p m) j ≡ true
       mine o j s t (inl h) = sent-old (flag-step P w p known F m) o j s t h
       mine o j s t (inr h) = sent-new (at-place P w p known m I h)
@@ -135,15 +148,23 @@ module _ (P : Plan) (w : World) (p : BoxNo) (known : p .0 < boxesOf P) (m : Move
           let N = del-new P w p known F m (at-place P w p known m I h) in
           absurd (n (o ∙ ap (λ (b : Ballot). b .owner) (del-ballot N) ∙ sym (hand-head P w p known m I (N .y) (N .hand-from))))
 
-  pub i6-del-next : (q : BoxNo) → q .0 < boxesOf P → q ≡ the (next P w p m) q .core .cballot .owner → 1 ≤ the (next P w p m) q .core .cballot .number → (j : ℕ) → j < P .jobs
+  pub i6-del-next : (q : BoxNo) → q .0 < boxesOf P → q ≡ the (next P w p m) q .core .cballot .owner → 1 ≤ the (next P w p m) q .core .cballot .number → (j : ℕ)
+      → j < P .jobs
       → sentAt (the (next P w p m) q) j ≡ true → (s t : Stamp) × Del (next P w p m .post) j (the (next P w p m) q .core .cballot) s t
   unfolding sentAt
   i6-del-next =
       others-next P w p known F m
-      (λ q y. q ≡ y .core .cballot .owner → 1 ≤ y .core .cballot .number → (j : ℕ) → j < P .jobs → sentAt y j ≡ true → (s t : Stamp) × Del (next P w p m .post) j (y .core .cballot) s t)
+      (λ q y.
+      q ≡ y .core .cballot .owner
+      → 1 ≤ y .core .cballot .number
+      → (j : ℕ)
+      → j < P .jobs
+      → sentAt y j ≡ true
+      → (s t : Stamp) × Del (next P w p m .post) j (y .core .cballot) s t)
       (mine (flag-step P w p known F m)) (λ q l n o r j lj h. del-pair (grows P w p known F m) refl (I .hands .i6-del q l o r j lj h))
     where
-      mine : FlagStep P w p m → p ≡ box P w p m .core .cballot .owner → 1 ≤ box P w p m .core .cballot .number → (j : ℕ) → j < P .jobs → sentAt (box P w p m) j ≡ true
+      mine : FlagStep P w p m → p ≡ box P w p m .core .cballot .owner → 1 ≤ box P w p m .core .cballot .number → (j : ℕ) → j < P .jobs
+          → sentAt (box P w p m) j ≡ true
           → (s t : Stamp) × Del (next P w p m .post) j (box P w p m .core .cballot) s t
       mine (flag-same e c) o r j lj h =
           del-pair (grows P w p known F m) c (I .hands .i6-del p known (o ∙ ap (λ (b : Ballot). b .owner) c) (rw c at r) j lj (rw e at h))
@@ -154,10 +175,14 @@ module _ (P : Plan) (w : World) (p : BoxNo) (known : p .0 < boxesOf P) (m : Move
           c : box P w p m .core .cballot ≡ y .core .cballot
           c = ap (λ (x : BoxState). x .core .cballot) (K .box-is)
 
-          then : (sentAt y j ≡ true) ⊎ In (deliver (ownOf y) (ownOf y) j (handout y j)) (sent P w p m) → (s t : Stamp) × Del (next P w p m .post) j (box P w p m .core .cballot) s t
+          then : (sentAt y j ≡ true) ⊎ In (deliver (ownOf y) (ownOf y) j (handout y j)) (sent P w p m)
+              → (s t : Stamp) × Del (next P w p m .post) j (box P w p m .core .cballot) s t
           then (inl t) =
               let e : box P w p m .core .cballot ≡ the w p .core .cballot = c ∙ hand-ballot P w p known m I y f in
-              del-pair (grows P w p known F m) e (I .hands .i6-del p known (hand-head P w p known m I y f) (rw e at r) j lj (sym (hand-sent P w p known m I y f j) ∙ t))
+              del-pair
+              (grows P w p known F m)
+              e
+              (I .hands .i6-del p known (hand-head P w p known m I y f) (rw e at r) j lj (sym (hand-sent P w p known m I y f j) ∙ t))
           then (inr i) = (rowAt y j .local, rowAt y j .global, rw c (record { from = ownOf y; to = ownOf y; there = in-right (w .post) (sent P w p m) i }))
 
   -- ---- I5a, a new local stamp: it is above the clock, and the clock is not below a stamp handed out
@@ -178,7 +203,8 @@ module _ (P : Plan) (w : World) (p : BoxNo) (known : p .0 < boxesOf P) (m : Move
       from : {k : ℕ} → Timed (w .post) j (G .vector (G .cert .top)) k → t .time ≤ k
       from T = let e = I .locals .i1a (T .acc) (G .cert .attained) in rw e at (T .upto)
 
-      go : Within Rattle.house.specs.Pairs.ballotLt (G .vector (homeOf P (the w p .core .cballot .owner))) (the w p .core .cballot) → t .time ≤ the w p .core .clock
+      go : Within Rattle.house.specs.Pairs.ballotLt (G .vector (homeOf P (the w p .core .cballot .owner))) (the w p .core .cballot)
+          → t .time ≤ the w p .core .clock
       go (equal e) =
           let q : G .vector (homeOf P (the w p .core .cballot .owner)) .owner ≡ p = ap (λ (b : Ballot). b .owner) e ∙ sym o in
           let A : Ack P (w .post) p j (G .vector) = subst (λ (r : BoxNo). Ack P (w .post) r j (G .vector)) q (G .own) in
@@ -194,7 +220,8 @@ module _ (P : Plan) (w : World) (p : BoxNo) (known : p .0 < boxesOf P) (m : Move
   -- ---- I5a, a new DELIVER
 
   -- a commit or a new leader proposes nothing
-  asks-not : {k : ℕ} {s : Stamp} {A : Type 0} (y : BoxState) → HandFrom P w p y → Hand P w p m y → Asks P w p m k s → rowIn (the w p .core .table) k .phase ≡ 0 → A
+  asks-not : {k : ℕ} {s : Stamp} {A : Type 0} (y : BoxState) → HandFrom P w p y → Hand P w p m y → Asks P w p m k s → rowIn (the w p .core .table) k .phase ≡ 0
+      → A
   unfolding committed
   asks-not y (by-lead a e) K Q z = leader-waits (the w p .core .status) (Q .lead) (a .waits)
   asks-not {k} y (by-commit a t e) K Q z = go (ℕ-discrete k (a .j))
@@ -208,7 +235,10 @@ module _ (P : Plan) (w : World) (p : BoxNo) (known : p .0 < boxesOf P) (m : Move
       own : Stay P (w .post) (a .j) (Rattle.boxes.specs.Box.keptBallot (the w p) (a .j)) (homeOf P p) (the w p .core .clock) (the w p .core .table)
       own =
           I .acks .a1b (own-mark P w p known m I a t) .stay
-          (subst (λ (q : BoxNo). Rattle.boxes.specs.Box.keptBallot (the w p) (a .j) (homeOf P q) ≡ the w p .core .cballot) (F .box p known .own) (kept-own P w p known m I a t))
+          (subst
+          (λ (q : BoxNo). Rattle.boxes.specs.Box.keptBallot (the w p) (a .j) (homeOf P q) ≡ the w p .core .cballot)
+          (F .box p known .own)
+          (kept-own P w p known m I a t))
 
       go : {A : Type 0} → Dec (k ≡ a .j) → A
       go (yes q) = let h = own .phase in let z′ = rw q at z in absurd (omega arith)
@@ -224,9 +254,12 @@ module _ (P : Plan) (w : World) (p : BoxNo) (known : p .0 < boxesOf P) (m : Move
   hand-most y (by-lead a e) k l = rw e (phase-most (a .sound) k l)
   hand-most y (by-commit a t e) k l =
       rw e (at-row (the w p .core .table) (a .j) _ k (λ r. r .phase ≤ 3)
-      (omega (arith, names-job P (a .j) (homeIn P (the w p)) (a .named), plan-says P (F .plan) .jobs-most, F .box p known .table)) (λ _. omega arith) (λ _. phase-most (a .sound) k l))
+      (omega (arith, names-job P (a .j) (homeIn P (the w p)) (a .named), plan-says P (F .plan) .jobs-most, F .box p known .table))
+      (λ _. omega arith)
+      (λ _. phase-most (a .sound) k l))
 
-  module _ {n j : ℕ} {from : BoxNo} {b : Ballot} {s t : Stamp} (N : DelNew P w p m n j from b s t) {k : ℕ} (apart : k ≢ j) {u : Stamp} (L : Lam P (w .post) b k u) (below : Sooner u t) where
+  module _ {n j : ℕ} {from : BoxNo} {b : Ballot} {s t : Stamp} (N : DelNew P w p m n j from b s t) {k : ℕ} (apart : k ≢ j) {u : Stamp}
+      (L : Lam P (w .post) b k u) (below : Sooner u t) where
     y : BoxState
     y = N .y
 
@@ -250,9 +283,15 @@ module _ (P : Plan) (w : World) (p : BoxNo) (known : p .0 < boxesOf P) (m : Move
     unfolding rowAt
     some =
         let c : box P w p m .core .cballot ≡ b = ap (λ (x : BoxState). x .core .cballot) (N .hand .box-is) ∙ sym ballot in
-        let o : p ≡ box P w p m .core .cballot .owner = hand-head P w p known m I (N .y) (N .hand-from) ∙ sym (ap (λ (c : Ballot). c .owner) (c ∙ del-ballot N)) in
+        let o : p ≡ box P w p m .core .cballot .owner =
+        hand-head P w p known m I (N .y) (N .hand-from) ∙ sym (ap (λ (c : Ballot). c .owner) (c ∙ del-ballot N)) in
         let h = l1-next P w p known m I p known in
-        let h′ = subst (λ (x : BoxState). p ≡ x .core .cballot .owner → (i : ℕ) (r : Stamp) → Lam P (next P w p m .post) (x .core .cballot) i r → rowIn (x .core .table) i .phase ≢ 0) (mover P w p known F m) h in
+        let h′ =
+        subst
+        (λ (x : BoxState).
+        p ≡ x .core .cballot .owner → (i : ℕ) (r : Stamp) → Lam P (next P w p m .post) (x .core .cballot) i r → rowIn (x .core .table) i .phase ≢ 0)
+        (mover P w p known F m)
+        h in
         rw table at (h′ o k u (rw c (lam-up (grows P w p known F m) L)))
 
     local : rowAt (N .y) k .local ≡ u
@@ -284,7 +323,12 @@ module _ (P : Plan) (w : World) (p : BoxNo) (known : p .0 < boxesOf P) (m : Move
       where
         go : (sentAt (N .y) k ≡ true) ⊎ (sentAt (N .y) k ≡ false) → Handed (next P w p m .post) (length (w .post) + n) k b t (rowAt (N .y) k .global)
         go (inr f) =
-            let r = ready-is P (N .y) k (record { phase = done; fresh = f; above = above-down P (N .y) (rowAt (N .y) k .global) (rowAt (N .y) j .global) (R .above) (rw global at e) }) in
+            let r =
+            ready-is
+            P
+            (N .y)
+            k
+            (record { phase = done; fresh = f; above = above-down P (N .y) (rowAt (N .y) k .global) (rowAt (N .y) j .global) (R .above) (rw global at e) }) in
             let z = N .first k lk r (rw global at e) in
             let i = z .1 in
             earlier (length (w .post) + z .0) (omega arith) (rowAt (N .y) k .local)
@@ -318,7 +362,8 @@ module _ (P : Plan) (w : World) (p : BoxNo) (known : p .0 < boxesOf P) (m : Move
 
   -- ---- I5a
 
-  pub i5a′ : {i j k : ℕ} {b : Ballot} {s t u : Stamp} → DelAt (next P w p m .post) i j b s t → k ≢ j → Lam P (next P w p m .post) b k u → Sooner u t → Before P (next P w p m .post) i k b t
+  pub i5a′ : {i j k : ℕ} {b : Ballot} {s t u : Stamp} → DelAt (next P w p m .post) i j b s t → k ≢ j → Lam P (next P w p m .post) b k u → Sooner u t
+      → Before P (next P w p m .post) i k b t
   i5a′ {i} {j} {k} {b} {s} {t} {u} h n L e = go (at-side (w .post) (sent P w p m) i (h .there)) (lam-step (w .post) (sent P w p m) L)
     where
       old : DelAt (w .post) i j b s t → Del (w .post) j b s t
@@ -346,7 +391,8 @@ module _ (P : Plan) (w : World) (p : BoxNo) (known : p .0 < boxesOf P) (m : Move
           absurd (M .a .pending (sym (del-ballot N) ∙ sym q ∙ ap (λ (x : NewState). x .ballot) (M .is)))
       lam-before N (lam-ask i) = let A = acc-new P w p known F m i in both-new N A (A .asks .stamped)
 
-      go : Side (w .post) (sent P w p m) i (deliver (h .from) (h .to) j (record { ballot = b; local = s; global = t })) → LamStep P (w .post) (sent P w p m) b k u → Before P (next P w p m .post) i k b t
+      go : Side (w .post) (sent P w p m) i (deliver (h .from) (h .to) j (record { ballot = b; local = s; global = t }))
+          → LamStep P (w .post) (sent P w p m) b k u → Before P (next P w p m .post) i k b t
       go (before d) (lam-old o) = before-up (grows P w p known F m) (I .hands .i5a (record { from = h .from; to = h .to; there = d }) n o e)
       go (before d) (lam-state y i q z) = fresh-news P w p known m I i (rw q (del-news I (old (record { from = h .from; to = h .to; there = d }))))
       go (before d) (lam-ask i) = let A = acc-new P w p known F m i in asked-new (record { from = h .from; to = h .to; there = d }) A (A .asks .stamped)

@@ -10,8 +10,7 @@ use native.Mathlib.Omega.{arith}
 use lib.ListN.{length, set}
 use lib.Seq.{getD-set-same, getD-set-other}
 use borrow.Author.Tests.{not-true}
-use Rattle.laws.specs.Choice.{and-left, and-right}
-use Rattle.laws.proofs.laws.Choice.{or-other, not-of}
+use Rattle.laws.proofs.laws.Choice.{and-left, and-right, or-other, not-of}
 use Rattle.laws.proofs.laws.Fold.{all-says}
 use Rattle.laws.proofs.laws.Place.{Begins, begins-refl}
 use Rattle.house.specs.Limits.{mostJobs}
@@ -64,7 +63,8 @@ module _ {P : Plan} {w : World} (I : Inv P w) where
   merged-i3 M m low e =
       let K = merge-i3 I M m low e in
       let G = K .final in
-      record { vector = G .vector; cert = G .cert; named = G .named; below = le-le ballotOrder (G .below) (lt-to-le ballotOrder (K .lower)); local = G .local; own = G .own }
+      record
+      { vector = G .vector; cert = G .cert; named = G .named; below = le-le ballotOrder (G .below) (lt-to-le ballotOrder (K .lower)); local = G .local; own = G .own }
 
   -- what is held of a new state y that stands in a longer post
   pub merge-held : {y : NewState} {l : List Rec} → Begins (w .post) l → Merge P (w .post) y → News l y → 1 ≤ y .ballot .number
@@ -103,7 +103,8 @@ module _ (P : Plan) (w : World) (p : BoxNo) (known : p .0 < boxesOf P) (m : Move
         let l = names-district P (a .j) d (F .plan) n in
         let t = and-left (keptBelow P (keeps P w p a) (a .j) (P .districts)) _ all in
         let some = not-true _ (or-other (not (names P (a .j) d)) _
-        (all-says (λ e. not (names P (a .j) (district e)) || not (isNoBallot (keptBallot (keeps P w p a) (a .j) (district e)))) (P .districts) t (d .0) l) (not-of n)) in
+        (all-says (λ e. not (names P (a .j) (district e)) || not (isNoBallot (keptBallot (keeps P w p a) (a .j) (district e)))) (P .districts) t (d .0) l)
+        (not-of n)) in
         keep-v1 P w p known m I a (a .j) d (omega (arith, plan-says P (F .plan) .districts-most)) some
 
     pub accept-time : (d : District) → names P (a .j) d ≡ true
@@ -191,7 +192,8 @@ module _ (P : Plan) (w : World) (p : BoxNo) (known : p .0 < boxesOf P) (m : Move
           j4 = λ z i e. let h = H .j4 z (old z i e) e in omega arith;
           c1 = λ k low. at-row (the w p .core .table) j r k (λ q. q .phase ≢ 0 → q .local .time ≤ y .core .clock) inside
               (λ e n. row-c1 why) (λ e n. let h = H .c1 k low n in omega arith);
-          i3 = λ k low. at-row (the w p .core .table) j r k (λ q. q .phase ≡ 3 → Final P l k (homeOf P p) (the w p .core .cballot) (q .local) (q .global)) inside
+          i3 =
+              λ k low. at-row (the w p .core .table) j r k (λ q. q .phase ≡ 3 → Final P l k (homeOf P p) (the w p .core .cballot) (q .local) (q .global)) inside
               (λ e n. rw e (row-i3 why n)) (λ e n. final-up B (H .i3 k low n));
         }
 
@@ -210,7 +212,8 @@ module _ (P : Plan) (w : World) (p : BoxNo) (known : p .0 < boxesOf P) (m : Move
       }
 
   -- a NEW_STATE of a ballot that something holds is not new
-  pub old-news : {g : District} {c : Ballot} {k : ℕ} {t : List Row} → Held P (w .post) g c k t → (z : NewState) → News (next P w p m .post) z → z .ballot ≡ c → News (w .post) z
+  pub old-news : {g : District} {c : Ballot} {k : ℕ} {t : List Row} → Held P (w .post) g c k t → (z : NewState) → News (next P w p m .post) z → z .ballot ≡ c
+      → News (w .post) z
   old-news {c = c} h z i e = go (news-cases (w .post) (sent P w p m) i)
     where
       go : News (w .post) z ⊎ News (sent P w p m) z → News (w .post) z
@@ -249,7 +252,8 @@ module _ (P : Plan) (w : World) (p : BoxNo) (known : p .0 < boxesOf P) (m : Move
 
   -- ---- all boxes and votes
 
-  merged-held : (a : Voting P w p) → Held P (next P w p m .post) (homeOf P p) (the w p .core .ballot) (clockStamp P (merges P w p a) .time) (merges P w p a .core .table)
+  merged-held : (a : Voting P w p)
+      → Held P (next P w p m .post) (homeOf P p) (the w p .core .ballot) (clockStamp P (merges P w p a) .time) (merges P w p a .core .table)
       → Held P (next P w p m .post) (homeOf P p) (merges P w p a .core .cballot) (merges P w p a .core .clock) (merges P w p a .core .table)
   unfolding clockStamp merged
   merged-held a h = h
@@ -257,7 +261,8 @@ module _ (P : Plan) (w : World) (p : BoxNo) (known : p .0 < boxesOf P) (m : Move
   own-held : TableStep P w p (box P w p m) (next P w p m .post)
       → Held P (next P w p m .post) (homeOf P p) (box P w p m .core .cballot) (box P w p m .core .clock) (box P w p m .core .table)
   own-held (still c u t) = rw (c, t) (held-up (held-still (I .holds .of-box p known) u))
-  own-held (wrote c u j r n t y) = rw (c, t) (held-wrote (box P w p m) (next P w p m .post) (grows P w p known F m) (old-news (I .holds .of-box p known)) j r n u y)
+  own-held (wrote c u j r n t y) =
+      rw (c, t) (held-wrote (box P w p m) (next P w p m .post) (grows P w p known F m) (old-news (I .holds .of-box p known)) j r n u y)
   own-held (took a c k t) =
       let N : News (w .post) (a .y) = record { from = a .from; to = p; there = a .there } in
       let B = grows P w p known F m in
@@ -266,8 +271,16 @@ module _ (P : Plan) (w : World) (p : BoxNo) (known : p .0 < boxesOf P) (m : Move
   own-held (merged-it a q e N) =
       let b = the w p .core .ballot in
       let o : b .owner ≡ p = ap (λ (c : Ballot). c .owner) (sym (a .same)) ∙ a .facts .theirs in
-      rw e (merged-held a (subst (λ (r : BoxNo). Held P (next P w p m .post) (homeOf P r) b (clockStamp P (merges P w p a) .time) (merges P w p a .core .table)) o
-      (merge-held I (grows P w p known F m) (merge-new P w p known m I a q) N (rw (ap (λ (c : Ballot). c .number) (a .same)) at (a .facts .real)) (λ z i e. i1b′ P w p known m I i N e))))
+      rw
+      e
+      (merged-held a (subst (λ (r : BoxNo). Held P (next P w p m .post) (homeOf P r) b (clockStamp P (merges P w p a) .time) (merges P w p a .core .table)) o
+      (merge-held
+      I
+      (grows P w p known F m)
+      (merge-new P w p known m I a q)
+      N
+      (rw (ap (λ (c : Ballot). c .number) (a .same)) at (a .facts .real))
+      (λ z i e. i1b′ P w p known m I i N e))))
 
   pub holds-step : Holds P (next P w p m)
   unfolding joined clockStamp
@@ -278,6 +291,7 @@ module _ (P : Plan) (w : World) (p : BoxNo) (known : p .0 < boxesOf P) (m : Move
         of-vote = λ h. go (voted-cases (w .post) (sent P w p m) h);
       }
     where
-      go : {q : BoxNo} {z : Ballotpaper} → Voted (w .post) q z ⊎ Voted (sent P w p m) q z → Held P (next P w p m .post) (homeOf P q) (z .cballot) (z .clock .time) (z .table)
+      go : {q : BoxNo} {z : Ballotpaper} → Voted (w .post) q z ⊎ Voted (sent P w p m) q z
+          → Held P (next P w p m .post) (homeOf P q) (z .cballot) (z .clock .time) (z .table)
       go (inl o) = held-up (I .holds .of-vote o)
       go (inr n) = let N = vote-new P w p known F m n in rw (N .is, N .by ∙ own-is P w p known F m) (held-up (I .holds .of-box p known))

@@ -10,8 +10,8 @@ use lib.Dec.{ltb, eqb}
 use lib.ListN.{getD, set}
 use lib.Seq.{getD-set-same, getD-set-other}
 use borrow.Author.Tests.{lt-ltb, le-ltb, eq-eqb, ne-eqb}
-use Rattle.laws.proofs.laws.Choice.{never}
-use Rattle.laws.specs.Choice.{pick, pick-true, pick-false}
+use Rattle.laws.proofs.laws.Choice.{never, pick-true, pick-false}
+use Rattle.laws.specs.Choice.{pick}
 use Rattle.laws.proofs.laws.Fold.{some-is}
 use Rattle.house.specs.Limits.{mostJobs}
 use Rattle.house.specs.Pairs.{noRow}
@@ -39,8 +39,10 @@ use Rattle.in_order.proofs.laws.Notions.{the, rowIn}
 use Rattle.in_order.proofs.laws.Inv.{Forms, Listing, Inv, State}
 use Rattle.in_order.proofs.laws.Grow.{listing-up}
 use Rattle.in_order.proofs.laws.Pigeon.{pigeon}
-use Rattle.in_order.proofs.laws.Moves.{Delivering, Move, m-post, m-retry, m-stand, m-cut, m-propose, m-again, m-keep, m-accept, m-mark, m-commit, m-deliver, m-join, m-hold, m-merge, m-state, m-lead, box, next}
-use Rattle.in_order.proofs.laws.Steps.{commit-hands, lead-hands, proposed-is, TableStep, still, wrote, took, merged-it, Why, proposes, accepts, commits-it, delivers-it, table-step}
+use Rattle.in_order.proofs.laws.Moves.{Delivering, Move, m-post, m-retry, m-stand, m-cut, m-propose, m-again, m-keep, m-accept, m-mark, m-commit}
+use Rattle.in_order.proofs.laws.Moves.{m-deliver, m-join, m-hold, m-merge, m-state, m-lead, box, next}
+use Rattle.in_order.proofs.laws.Steps.{commit-hands, lead-hands, proposed-is, TableStep, still, wrote, took, merged-it, Why, proposes, accepts}
+use Rattle.in_order.proofs.laws.Steps.{commits-it, delivers-it, table-step}
 use Rattle.in_order.proofs.laws.Next.{grows, boxes-next}
 use Rattle.in_order.proofs.laws.StepHolds.{at-row}
 use Rattle.in_order.proofs.laws.StepAcks.{took-up}
@@ -59,20 +61,30 @@ module _ (P : Plan) (w : World) (p : BoxNo) (known : p .0 < boxesOf P) (F : Form
   list-step (m-retry j) = list-same refl refl
   list-step m-stand = list-same refl refl
   list-step m-cut = list-same refl refl
-  list-step (m-propose a n) = let e = proposed-is P w p known F a n in list-same (ap (λ (x : BoxState). x .core .list) e) (ap (λ (x : BoxState). x .core .count) e)
+  list-step (m-propose a n) =
+      let e = proposed-is P w p known F a n in list-same (ap (λ (x : BoxState). x .core .list) e) (ap (λ (x : BoxState). x .core .count) e)
   list-step (m-again a n) = list-same refl refl
   list-step (m-keep a) = list-same refl refl
   list-step (m-accept a f) = list-same refl refl
   list-step (m-mark a) = list-same refl refl
-  list-step (m-commit a f) = let e = commit-hands P w p known F a f .box-is in list-same (ap (λ (x : BoxState). x .core .list) e) (ap (λ (x : BoxState). x .core .count) e)
+  list-step (m-commit a f) =
+      let e = commit-hands P w p known F a f .box-is in list-same (ap (λ (x : BoxState). x .core .list) e) (ap (λ (x : BoxState). x .core .count) e)
   list-step (m-deliver a) =
       list-more a refl refl refl
-      (ap (λ (r : Row). r .phase) (getD-set-same (the w p .core .table) (a .j) _ noRow (omega (arith, names-job P (a .j) (homeIn P (the w p)) (a .named), plan-says P (F .plan) .jobs-most, F .box p known .table))))
+      (ap
+      (λ (r : Row). r .phase)
+      (getD-set-same
+      (the w p .core .table)
+      (a .j)
+      _
+      noRow
+      (omega (arith, names-job P (a .j) (homeIn P (the w p)) (a .named), plan-says P (F .plan) .jobs-most, F .box p known .table))))
   list-step (m-join a) = list-same refl refl
   list-step (m-hold a) = list-same refl refl
   list-step (m-merge a q) = list-same refl refl
   list-step (m-state a) = list-same refl refl
-  list-step (m-lead a) = let e = lead-hands P w p known F a .box-is in list-same (ap (λ (x : BoxState). x .core .list) e) (ap (λ (x : BoxState). x .core .count) e)
+  list-step (m-lead a) =
+      let e = lead-hands P w p known F a .box-is in list-same (ap (λ (x : BoxState). x .core .list) e) (ap (λ (x : BoxState). x .core .count) e)
 
 module _ (P : Plan) (w : World) (p : BoxNo) (known : p .0 < boxesOf P) (m : Move P w p) (I : Inv P w) (S : State P w) where
   F : Forms P w
@@ -82,7 +94,8 @@ module _ (P : Plan) (w : World) (p : BoxNo) (known : p .0 < boxesOf P) (m : Move
 
   not-listed : (a : Delivering P w p) (i : ℕ) → i < the w p .core .count → listedAt (the w p) i .job ≢ a .j
   unfolding onList
-  not-listed a i l e = never (some-is (λ k. eqb (listedAt (the w p) k .job) (a .j)) (the w p .core .count) i l (eq-eqb (listedAt (the w p) i .job) (a .j) e)) (a .new)
+  not-listed a i l e =
+      never (some-is (λ k. eqb (listedAt (the w p) k .job) (a .j)) (the w p .core .count) i l (eq-eqb (listedAt (the w p) i .job) (a .j) e)) (a .new)
 
   pub room : (a : Delivering P w p) → the w p .core .count < mostJobs
   room a =
@@ -103,7 +116,10 @@ module _ (P : Plan) (w : World) (p : BoxNo) (known : p .0 < boxesOf P) (m : Move
       low i l = go (decLt i (the w p .core .count))
         where
           go : Dec (i < the w p .core .count) → f i < P .jobs
-          go (yes h) = let L = I .hands .d1 p known i h in let n = I .acks .i3d (L .del) .named in rw (in-list i h) (names-job P (listedAt (the w p) i .job) (homeOf P (L .ballot .owner)) n)
+          go (yes h) =
+              let L = I .hands .d1 p known i h in
+              let n = I .acks .i3d (L .del) .named in
+              rw (in-list i h) (names-job P (listedAt (the w p) i .job) (homeOf P (L .ballot .owner)) n)
           go (no h) = rw (behind i (omega arith)) (names-job P (a .j) (homeIn P (the w p)) (a .named))
 
       apart : (k i : ℕ) → k < i → i < the w p .core .count + 1 → f k ≢ f i
@@ -114,7 +130,8 @@ module _ (P : Plan) (w : World) (p : BoxNo) (known : p .0 < boxesOf P) (m : Move
           go (no u) = rw (in-list k (omega arith), behind i (omega arith)) (not-listed a k (omega arith))
 
   -- the list with one job more
-  module _ (a : Delivering P w p) (x : BoxState) (e : x .core .list ≡ set (the w p .core .list) (the w p .core .count) (record { job = a .j; stamp = a .y .global })) where
+  module _ (a : Delivering P w p) (x : BoxState)
+      (e : x .core .list ≡ set (the w p .core .list) (the w p .core .count) (record { job = a .j; stamp = a .y .global })) where
     last-is : listedAt x (the w p .core .count) ≡ record { job = a .j; stamp = a .y .global }
     unfolding listedAt
     last-is = rw e (getD-set-same (the w p .core .list) (the w p .core .count) _ noListed (omega (arith, room a, F .box p known .list)))
@@ -130,7 +147,8 @@ module _ (P : Plan) (w : World) (p : BoxNo) (known : p .0 < boxesOf P) (m : Move
         let h = rw (pick-false _ (listedAt (the w p) (the w p .core .count - 1) .stamp) (ne-eqb (the w p .core .count) 0 (omega arith))) at (a .above) in
         go (ℕ-discrete k (the w p .core .count - 1)) h
       where
-        go : Dec (k ≡ the w p .core .count - 1) → Sooner (listedAt (the w p) (the w p .core .count - 1) .stamp) (a .y .global) → Sooner (listedAt (the w p) k .stamp) (a .y .global)
+        go : Dec (k ≡ the w p .core .count - 1) → Sooner (listedAt (the w p) (the w p .core .count - 1) .stamp) (a .y .global)
+            → Sooner (listedAt (the w p) k .stamp) (a .y .global)
         go (yes q) h = rw q h
         go (no q) h = lt-lt stampOrder (I .hands .rising p known k (the w p .core .count - 1) (omega arith) (omega arith)) h
 
@@ -144,7 +162,8 @@ module _ (P : Plan) (w : World) (p : BoxNo) (known : p .0 < boxesOf P) (m : Move
   row-done (delivers-it a ej c e) h = ap (λ (r : Row). r .phase) e
 
   -- what D1 says of the mover's old list after the step
-  listing : TableStep P w p (box P w p m) (next P w p m .post) → {j : ℕ} {s : Stamp} → Listing P (w .post) (homeOf P p) j s (the w p .core .cballot) (the w p .core .table)
+  listing : TableStep P w p (box P w p m) (next P w p m .post) → {j : ℕ} {s : Stamp}
+      → Listing P (w .post) (homeOf P p) j s (the w p .core .cballot) (the w p .core .table)
       → Listing P (w .post) (homeOf P p) j s (box P w p m .core .cballot) (box P w p m .core .table)
   unfolding merged
   listing (still c u t) L = rw (c, t) L
@@ -164,7 +183,8 @@ module _ (P : Plan) (w : World) (p : BoxNo) (known : p .0 < boxesOf P) (m : Move
       record { ballot = L .ballot; local = L .local; del = L .del; home = L .home; upto = lt-to-le ballotOrder up; now = λ e. lt-self ballotOrder up e }
   listing (merged-it a q e N) L =
       let c : box P w p m .core .cballot ≡ the w p .core .ballot = ap (λ (x : BoxState). x .core .cballot) e in
-      let up : Lower (L .ballot) (box P w p m .core .cballot) = rw c (le-then-lt ballotOrder (L .upto) (le-ne ballotOrder (cballot-upto (a .sound)) (a .pending))) in
+      let up : Lower (L .ballot) (box P w p m .core .cballot) =
+      rw c (le-then-lt ballotOrder (L .upto) (le-ne ballotOrder (cballot-upto (a .sound)) (a .pending))) in
       record { ballot = L .ballot; local = L .local; del = L .del; home = L .home; upto = lt-to-le ballotOrder up; now = λ e. lt-self ballotOrder up e }
 
   abbrev OnList : BoxNo → BoxState → Type 0
@@ -180,7 +200,9 @@ module _ (P : Plan) (w : World) (p : BoxNo) (known : p .0 < boxesOf P) (m : Move
       rw (same-listed e i) L
   own-d1 (list-more a e c b ph) i l = go (ℕ-discrete i (the w p .core .count))
     where
-      go : Dec (i ≡ the w p .core .count) → Listing P (w .post) (homeOf P p) (listedAt (box P w p m) i .job) (listedAt (box P w p m) i .stamp) (box P w p m .core .cballot) (box P w p m .core .table)
+      go : Dec (i ≡ the w p .core .count)
+          → Listing P (w .post) (homeOf P p) (listedAt (box P w p m) i .job) (listedAt (box P w p m) i .stamp) (box P w p m .core .cballot)
+          (box P w p m .core .table)
       go (yes q) =
           rw (q, last-is a (box P w p m) e) (record {
             ballot = a .y .ballot;
@@ -196,7 +218,15 @@ module _ (P : Plan) (w : World) (p : BoxNo) (known : p .0 < boxesOf P) (m : Move
           rw (first-are a (box P w p m) e i l′) L
 
   pub d1′ : (q : BoxNo) → q .0 < boxesOf P → (i : ℕ) → i < the (next P w p m) q .core .count
-      → Listing P (next P w p m .post) (homeOf P q) (listedAt (the (next P w p m) q) i .job) (listedAt (the (next P w p m) q) i .stamp) (the (next P w p m) q .core .cballot) (the (next P w p m) q .core .table)
+      →
+      Listing
+      P
+      (next P w p m .post)
+      (homeOf P q)
+      (listedAt (the (next P w p m) q) i .job)
+      (listedAt (the (next P w p m) q) i .stamp)
+      (the (next P w p m) q .core .cballot)
+      (the (next P w p m) q .core .table)
   d1′ q l i h = listing-up (grows P w p known F m) (boxes-next P w p known F m OnList (own-d1 (list-step P w p known F m)) (I .hands .d1) q l i h)
 
   -- ---- rising, once
@@ -223,8 +253,10 @@ module _ (P : Plan) (w : World) (p : BoxNo) (known : p .0 < boxesOf P) (m : Move
       go (yes q) = rw (q, last-is a (box P w p m) e, first-are a (box P w p m) e k (omega arith)) (not-listed a k (omega arith))
       go (no q) = rw (first-are a (box P w p m) e k (omega arith), first-are a (box P w p m) e i (omega arith)) (I .hands .once p known k i h (omega arith))
 
-  pub rising′ : (q : BoxNo) → q .0 < boxesOf P → (k i : ℕ) → k < i → i < the (next P w p m) q .core .count → Sooner (listedAt (the (next P w p m) q) k .stamp) (listedAt (the (next P w p m) q) i .stamp)
+  pub rising′ : (q : BoxNo) → q .0 < boxesOf P → (k i : ℕ) → k < i → i < the (next P w p m) q .core .count
+      → Sooner (listedAt (the (next P w p m) q) k .stamp) (listedAt (the (next P w p m) q) i .stamp)
   rising′ = boxes-next P w p known F m Rises (own-rises (list-step P w p known F m)) (I .hands .rising)
 
-  pub once′ : (q : BoxNo) → q .0 < boxesOf P → (k i : ℕ) → k < i → i < the (next P w p m) q .core .count → listedAt (the (next P w p m) q) k .job ≢ listedAt (the (next P w p m) q) i .job
+  pub once′ : (q : BoxNo) → q .0 < boxesOf P → (k i : ℕ) → k < i → i < the (next P w p m) q .core .count
+      → listedAt (the (next P w p m) q) k .job ≢ listedAt (the (next P w p m) q) i .job
   once′ = boxes-next P w p known F m Differ (own-differ (list-step P w p known F m)) (I .hands .once)

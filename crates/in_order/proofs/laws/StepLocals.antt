@@ -110,7 +110,8 @@ module _ (P : Plan) (w : World) (p : BoxNo) (known : p .0 < boxesOf P) (m : Move
           let c : the w p .core .cballot ≡ the w p .core .ballot = sym (acc-new P w p known F m i .ballot) ∙ sym e ∙ ap (λ (z : NewState). z .ballot) (N .is) in
           absurd (N .a .pending c)
 
-  pub l0′ : {j : ℕ} {b : Ballot} {s : Stamp} {y : NewState} → Acc (next P w p m .post) j b s → News (next P w p m .post) y → y .ballot ≡ b → rowIn (y .table) j .phase ≢ 0
+  pub l0′ : {j : ℕ} {b : Ballot} {s : Stamp} {y : NewState} → Acc (next P w p m .post) j b s → News (next P w p m .post) y → y .ballot ≡ b
+      → rowIn (y .table) j .phase ≢ 0
       → rowIn (y .table) j .local ≡ s
   l0′ {j} {b} {s} {y} h i e n = go (acc-cases (w .post) (sent P w p m) h) (news-cases (w .post) (sent P w p m) i)
     where
@@ -132,7 +133,8 @@ module _ (P : Plan) (w : World) (p : BoxNo) (known : p .0 < boxesOf P) (m : Move
   row-some (delivers-it a ej c e) = rw e (omega arith)
 
   -- the mover's rows for what its ballot had
-  l1-own : TableStep P w p (box P w p m) (next P w p m .post) → p ≡ box P w p m .core .cballot .owner → {j : ℕ} {s : Stamp} → Lam P (w .post) (box P w p m .core .cballot) j s
+  l1-own : TableStep P w p (box P w p m) (next P w p m .post) → p ≡ box P w p m .core .cballot .owner → {j : ℕ} {s : Stamp}
+      → Lam P (w .post) (box P w p m .core .cballot) j s
       → rowIn (box P w p m .core .table) j .phase ≢ 0
   unfolding merged
   l1-own (still c u t) o L = rw t (I .locals .l1 p known (o ∙ ap (λ (b : Ballot). b .owner) c) (rw c at L))
@@ -154,14 +156,17 @@ module _ (P : Plan) (w : World) (p : BoxNo) (known : p .0 < boxesOf P) (m : Move
       let N = acc-new P w p known F m i in
       absurd (n (o ∙ ap (λ (b : Ballot). b .owner) (N .ballot) ∙ sym (head (N .asks))))
 
-  pub l1-next : (q : BoxNo) → q .0 < boxesOf P → q ≡ the (next P w p m) q .core .cballot .owner → (j : ℕ) (s : Stamp) → Lam P (next P w p m .post) (the (next P w p m) q .core .cballot) j s
+  pub l1-next : (q : BoxNo) → q .0 < boxesOf P → q ≡ the (next P w p m) q .core .cballot .owner → (j : ℕ) (s : Stamp)
+      → Lam P (next P w p m .post) (the (next P w p m) q .core .cballot) j s
       → rowIn (the (next P w p m) q .core .table) j .phase ≢ 0
   l1-next =
       others-next P w p known F m
       (λ q y. q ≡ y .core .cballot .owner → (j : ℕ) (s : Stamp) → Lam P (next P w p m .post) (y .core .cballot) j s → rowIn (y .core .table) j .phase ≢ 0)
-      (λ o j s L. mine o j s (lam-step (w .post) (sent P w p m) L)) (λ q l n o j s L. I .locals .l1 q l o (not-other q n o j s (lam-step (w .post) (sent P w p m) L)))
+      (λ o j s L. mine o j s (lam-step (w .post) (sent P w p m) L))
+      (λ q l n o j s L. I .locals .l1 q l o (not-other q n o j s (lam-step (w .post) (sent P w p m) L)))
     where
-      mine : p ≡ box P w p m .core .cballot .owner → (j : ℕ) (s : Stamp) → LamStep P (w .post) (sent P w p m) (box P w p m .core .cballot) j s → rowIn (box P w p m .core .table) j .phase ≢ 0
+      mine : p ≡ box P w p m .core .cballot .owner → (j : ℕ) (s : Stamp) → LamStep P (w .post) (sent P w p m) (box P w p m .core .cballot) j s
+          → rowIn (box P w p m .core .table) j .phase ≢ 0
       mine o j s (lam-old L) = l1-own (table-step P w p known F m) o L
       mine o j s (lam-state y n e h) = let N = news-new P w p known F m n in rw (N .box-is) (rw (ap (λ (z : NewState). rowIn (z .table) j .phase) (N .is)) at h)
       mine o j s (lam-ask n) = acc-new P w p known F m n .asks .phase
@@ -173,7 +178,8 @@ module _ (P : Plan) (w : World) (p : BoxNo) (known : p .0 < boxesOf P) (m : Move
     was : Acc (w .post) j b s → Fresh j b s
     is-new : AccNew P w p m j b s → rowIn (the w p .core .table) j .phase ≡ 0 → s .time ≡ the w p .core .clock + 1 → Fresh j b s
 
-  fresh : {j : ℕ} {b : Ballot} {s : Stamp} {y : NewState} → Acc (next P w p m .post) j b s → News (w .post) y → y .ballot ≡ b → rowIn (y .table) j .phase ≡ 0 → Fresh j b s
+  fresh : {j : ℕ} {b : Ballot} {s : Stamp} {y : NewState} → Acc (next P w p m .post) j b s → News (w .post) y → y .ballot ≡ b → rowIn (y .table) j .phase ≡ 0
+      → Fresh j b s
   fresh {j} {b} {s} {y} h i e z = go (acc-cases (w .post) (sent P w p m) h)
     where
       old : (t : Stamp) → t ≡ s → Lam P (w .post) b j t → Fresh j b s
@@ -188,7 +194,8 @@ module _ (P : Plan) (w : World) (p : BoxNo) (known : p .0 < boxesOf P) (m : Move
       go (inl o) = was o
       go (inr n) = let N = acc-new P w p known F m n in new N (N .asks .stamped)
 
-  n2′ : {j : ℕ} {b : Ballot} {s : Stamp} {y : NewState} → Acc (next P w p m .post) j b s → News (next P w p m .post) y → y .ballot ≡ b → rowIn (y .table) j .phase ≡ 0
+  n2′ : {j : ℕ} {b : Ballot} {s : Stamp} {y : NewState} → Acc (next P w p m .post) j b s → News (next P w p m .post) y → y .ballot ≡ b
+      → rowIn (y .table) j .phase ≡ 0
       → y .clock .time < s .time
   n2′ {j} {b} {s} {y} h i e z = go (news-cases (w .post) (sent P w p m) i)
     where
@@ -220,14 +227,17 @@ module _ (P : Plan) (w : World) (p : BoxNo) (known : p .0 < boxesOf P) (m : Move
         where
           go : Dec (j ≡ i) → j ≡ i
           go (yes e) = e
-          go (no e) = absurd (A .phase (ap (λ (x : List Row). rowIn x j .phase) t ∙ ap (λ (q : Row). q .phase) (getD-set-other (the w p .core .table) i j r noRow e) ∙ z))
+          go (no e) =
+              absurd
+              (A .phase (ap (λ (x : List Row). rowIn x j .phase) t ∙ ap (λ (q : Row). q .phase) (getD-set-other (the w p .core .table) i j r noRow e) ∙ z))
   one-job (took a c k t) A B zj zk = never-lead a A
     where
       never-lead : {j : ℕ} {s : Stamp} {X : Type 0} (a : Stating P w p) → Asks P w p m j s → X
       never-lead a A = leader-waits (the w p .core .status) (A .lead) (a .waits)
   one-job (merged-it a q e N) A B zj zk = leader-waits (the w p .core .status) (A .lead) (a .waits)
 
-  n3′ : {j k : ℕ} {b : Ballot} {s t : Stamp} {y : NewState} → Acc (next P w p m .post) j b s → Acc (next P w p m .post) k b t → News (next P w p m .post) y → y .ballot ≡ b
+  n3′ : {j k : ℕ} {b : Ballot} {s t : Stamp} {y : NewState} → Acc (next P w p m .post) j b s → Acc (next P w p m .post) k b t → News (next P w p m .post) y
+      → y .ballot ≡ b
       → rowIn (y .table) j .phase ≡ 0 → rowIn (y .table) k .phase ≡ 0 → j ≢ k → s ≢ t
   n3′ {j} {k} {b} {s} {t} {y} h h′ i e zj zk n = go (news-cases (w .post) (sent P w p m) i)
     where
@@ -248,8 +258,10 @@ module _ (P : Plan) (w : World) (p : BoxNo) (known : p .0 < boxesOf P) (m : Move
       → (s ≡ rowIn (box P w p m .core .table) j .local) × (t ≡ rowIn (box P w p m .core .table) j .global)
   unfolding rowAt
   row-shown {j = j} N =
-      let e : box P w p m .core .table ≡ N .y .core .table = ap (λ (x : BoxState). x .core .table) (N .hand .box-is) in
-      (ap (λ (o : Handout). o .local) (N .is) ∙ ap (λ (x : List Row). rowIn x j .local) (sym e), ap (λ (o : Handout). o .global) (N .is) ∙ ap (λ (x : List Row). rowIn x j .global) (sym e))
+      let e : box P w p m .core .table ≡ N .y .core .table = ap (λ (x : BoxState). x .core .table) (N .hand .box-is) in (
+        ap (λ (o : Handout). o .local) (N .is) ∙ ap (λ (x : List Row). rowIn x j .local) (sym e),
+        ap (λ (o : Handout). o .global) (N .is) ∙ ap (λ (x : List Row). rowIn x j .global) (sym e),
+      )
 
   -- the box that hands out: ballot, flags and head are the mover's
   pub hand-ballot : (y : BoxState) → HandFrom P w p y → y .core .cballot ≡ the w p .core .cballot
@@ -273,7 +285,9 @@ module _ (P : Plan) (w : World) (p : BoxNo) (known : p .0 < boxesOf P) (m : Move
   pub not-before : {i j : ℕ} {from : BoxNo} {b : Ballot} {s t s′ t′ : Stamp} {A : Type 0} → DelNew P w p m i j from b s t → Del (w .post) j b s′ t′ → A
   not-before {j = j} {b = b} N o =
       let e : b ≡ the w p .core .cballot = ap (λ (q : Handout). q .ballot) (N .is) ∙ hand-ballot (N .y) (N .hand-from) in
-      never (hand-sent (N .y) (N .hand-from) j ∙ I .hands .i6-sent p known (hand-head (N .y) (N .hand-from)) (rw e at o)) (ready-says P (N .y) j (N .ready-it) .fresh)
+      never
+      (hand-sent (N .y) (N .hand-from) j ∙ I .hands .i6-sent p known (hand-head (N .y) (N .hand-from)) (rw e at o))
+      (ready-says P (N .y) j (N .ready-it) .fresh)
 
   g0′ : {j : ℕ} {b : Ballot} {s t s′ t′ : Stamp} → Del (next P w p m .post) j b s t → Del (next P w p m .post) j b s′ t′ → (s ≡ s′) × (t ≡ t′)
   g0′ {j} {b} {s} {t} {s′} {t′} h h′ = go (del-cases (w .post) (sent P w p m) h) (del-cases (w .post) (sent P w p m) h′)

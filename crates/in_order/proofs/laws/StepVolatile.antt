@@ -11,8 +11,8 @@ use lib.Dec.{leb}
 use lib.ListN.{length, getD}
 use lib.Seq.{getD-set-same, getD-set-other}
 use borrow.Author.Tests.{leb-true}
-use Rattle.laws.proofs.laws.Choice.{look, never}
-use Rattle.laws.specs.Choice.{pick, pick-true, pick-false, and-left}
+use Rattle.laws.proofs.laws.Choice.{look, never, pick-true, pick-false, and-left}
+use Rattle.laws.specs.Choice.{pick}
 use Rattle.house.specs.Limits.{mostDistricts, mostJobs}
 use Rattle.house.specs.Pairs.{noStamp, noBallot, isNoBallot, sameBallot}
 use Rattle.house.proofs.laws.Orders.{ballotOrder}
@@ -43,7 +43,8 @@ use Rattle.in_order.proofs.laws.Inv.{Forms, KeptVote, Volatiles, Inv}
 use Rattle.in_order.proofs.laws.Grow.{acc-up, ack-up, merge-up, kept-vote-up, news-cases}
 use Rattle.in_order.proofs.laws.Laws.{one-value, kept-place, kept-apart, same-box, box-ne}
 use Rattle.in_order.proofs.laws.Merging.{merge-of, merged-row}
-use Rattle.in_order.proofs.laws.Moves.{Accepting, Acking, Voting, Move, m-post, m-retry, m-stand, m-cut, m-propose, m-again, m-keep, m-accept, m-mark, m-commit, m-deliver, m-join, m-hold, m-merge, m-state, m-lead, keeps, marks, merges, box, sent, next}
+use Rattle.in_order.proofs.laws.Moves.{Accepting, Acking, Voting, Move, m-post, m-retry, m-stand, m-cut, m-propose, m-again, m-keep, m-accept, m-mark}
+use Rattle.in_order.proofs.laws.Moves.{m-commit, m-deliver, m-join, m-hold, m-merge, m-state, m-lead, keeps, marks, merges, box, sent, next}
 use Rattle.in_order.proofs.laws.Steps.{commit-hands, lead-hands, proposed-is}
 use Rattle.in_order.proofs.laws.Origins.{news-new}
 use Rattle.in_order.proofs.laws.Next.{grows, boxes-next, own-is}
@@ -56,7 +57,8 @@ data VolStep (P : Plan) (w : World) (p : BoxNo) (y : BoxState) : Type 0 where
   vol-keep : (a : Accepting P w p) → y .volatile ≡ keeps P w p a .volatile → y .core .ballot ≡ the w p .core .ballot → VolStep P w p y
   vol-mark : (a : Acking P w p) → y .volatile ≡ marks P w p a .volatile → y .core .ballot ≡ the w p .core .ballot → VolStep P w p y
   vol-drop : y .volatile ≡ putVote (the w p) noVote .volatile → VolStep P w p y
-  vol-hold : (a : Voting P w p) → y .volatile ≡ putVote (the w p) (voteOf (a .from) (a .y)) .volatile → y .core .ballot ≡ the w p .core .ballot → VolStep P w p y
+  vol-hold : (a : Voting P w p) → y .volatile ≡ putVote (the w p) (voteOf (a .from) (a .y)) .volatile → y .core .ballot ≡ the w p .core .ballot
+      → VolStep P w p y
 
 module _ (P : Plan) (w : World) (p : BoxNo) (known : p .0 < boxesOf P) (F : Forms P w) where
   vol-step : (m : Move P w p) → VolStep P w p (box P w p m)
@@ -81,7 +83,8 @@ module _ (P : Plan) (w : World) (p : BoxNo) (known : p .0 < boxesOf P) (F : Form
       let e = lead-hands P w p known F a .box-is in vol-same (ap (λ (x : BoxState). x .volatile) e) (ap (λ (x : BoxState). x .core .ballot) e)
 
 -- an acknowledgement with other ballots for districts that are not named
-ack-same : {P : Plan} {l : List Rec} {q : BoxNo} {m : ℕ} {f g : District → Ballot} → Ack P l q m f → ((d : District) → names P m d ≡ true → f d ≡ g d) → Ack P l q m g
+ack-same : {P : Plan} {l : List Rec} {q : BoxNo} {m : ℕ} {f g : District → Ballot} → Ack P l q m f → ((d : District) → names P m d ≡ true → f d ≡ g d)
+    → Ack P l q m g
 ack-same h e = record { to = h .to; ballots = h .ballots; there = h .there; entries = λ d n. h .entries d n ∙ e d n }
 
 -- V1 and V2 of a volatile part
@@ -130,24 +133,30 @@ module _ (P : Plan) (w : World) (p : BoxNo) (known : p .0 < boxesOf P) (m : Move
 
     pub kept-here : (k : ℕ) (d : District) → keptAt k d ≡ place → getD (keeps P w p a .volatile .«kept_ballots») (keptAt k d) noBallot ≡ a .y .ballot
     unfolding kept
-    kept-here k d e = rw e (getD-set-same (the w p .volatile .«kept_ballots») place (a .y .ballot) noBallot (omega (arith, place-low, F .box p known .kept-ballots)))
+    kept-here k d e =
+        rw e (getD-set-same (the w p .volatile .«kept_ballots») place (a .y .ballot) noBallot (omega (arith, place-low, F .box p known .kept-ballots)))
 
-    pub kept-there : (k : ℕ) (d : District) → keptAt k d ≢ place → getD (keeps P w p a .volatile .«kept_ballots») (keptAt k d) noBallot ≡ getD (the w p .volatile .«kept_ballots») (keptAt k d) noBallot
+    pub kept-there : (k : ℕ) (d : District) → keptAt k d ≢ place
+        → getD (keeps P w p a .volatile .«kept_ballots») (keptAt k d) noBallot ≡ getD (the w p .volatile .«kept_ballots») (keptAt k d) noBallot
     unfolding kept
     kept-there k d n = getD-set-other (the w p .volatile .«kept_ballots») place (keptAt k d) (a .y .ballot) noBallot n
 
     stamp-here : (k : ℕ) (d : District) → keptAt k d ≡ place → getD (keeps P w p a .volatile .«kept_stamps») (keptAt k d) noStamp ≡ a .y .stamp
     unfolding kept
-    stamp-here k d e = rw e (getD-set-same (the w p .volatile .«kept_stamps») place (a .y .stamp) noStamp (omega (arith, place-low, F .box p known .kept-stamps)))
+    stamp-here k d e =
+        rw e (getD-set-same (the w p .volatile .«kept_stamps») place (a .y .stamp) noStamp (omega (arith, place-low, F .box p known .kept-stamps)))
 
-    stamp-there : (k : ℕ) (d : District) → keptAt k d ≢ place → getD (keeps P w p a .volatile .«kept_stamps») (keptAt k d) noStamp ≡ getD (the w p .volatile .«kept_stamps») (keptAt k d) noStamp
+    stamp-there : (k : ℕ) (d : District) → keptAt k d ≢ place
+        → getD (keeps P w p a .volatile .«kept_stamps») (keptAt k d) noStamp ≡ getD (the w p .volatile .«kept_stamps») (keptAt k d) noStamp
     unfolding kept
     stamp-there k d n = getD-set-other (the w p .volatile .«kept_stamps») place (keptAt k d) (a .y .stamp) noStamp n
 
     pub keep-v1 : V1 (w .post) (keeps P w p a .volatile)
     keep-v1 k d ld n = go (ℕ-discrete (keptAt k d) place)
       where
-        go : Dec (keptAt k d ≡ place) → Acc (w .post) k (getD (keeps P w p a .volatile .«kept_ballots») (keptAt k d) noBallot) (getD (keeps P w p a .volatile .«kept_stamps») (keptAt k d) noStamp)
+        go : Dec (keptAt k d ≡ place)
+            → Acc (w .post) k (getD (keeps P w p a .volatile .«kept_ballots») (keptAt k d) noBallot)
+            (getD (keeps P w p a .volatile .«kept_stamps») (keptAt k d) noStamp)
         go (yes e) =
             let ek = kept-apart k (a .j) d (homeOf P (a .from)) ld home-four e .0 in
             rw (kept-here k d e, stamp-here k d e, ek) (record { from = a .from; to = p; there = a .there })
@@ -159,13 +168,20 @@ module _ (P : Plan) (w : World) (p : BoxNo) (known : p .0 < boxesOf P) (m : Move
     unfolding sameKept keptBallot
     kept-again t k d = go (ℕ-discrete (keptAt k d) place)
       where
-        go : Dec (keptAt k d ≡ place) → getD (the w p .volatile .«kept_ballots») (keptAt k d) noBallot ≡ getD (keeps P w p a .volatile .«kept_ballots») (keptAt k d) noBallot
+        go : Dec (keptAt k d ≡ place)
+            → getD (the w p .volatile .«kept_ballots») (keptAt k d) noBallot ≡ getD (keeps P w p a .volatile .«kept_ballots») (keptAt k d) noBallot
         go (yes e) =
-            let q = ballotOrder .eq-says (a .y .ballot) (keptBallot (the w p) (a .j) (homeOf P (a .from))) (and-left (sameBallot (a .y .ballot) (keptBallot (the w p) (a .j) (homeOf P (a .from)))) _ t) in
+            let q =
+            ballotOrder
+            .eq-says
+            (a .y .ballot)
+            (keptBallot (the w p) (a .j) (homeOf P (a .from)))
+            (and-left (sameBallot (a .y .ballot) (keptBallot (the w p) (a .j) (homeOf P (a .from)))) _ t) in
             ap (λ (i : ℕ). getD (the w p .volatile .«kept_ballots») i noBallot) e ∙ sym q ∙ sym (kept-here k d e)
         go (no u) = sym (kept-there k d u)
 
-    marks-here : getD (keeps P w p a .volatile .marks) (a .j) noMarks ≡ pick (sameKept (the w p) (a .j) (homeOf P (a .from)) (a .y)) (getD (the w p .volatile .marks) (a .j) noMarks) noMarks
+    marks-here : getD (keeps P w p a .volatile .marks) (a .j) noMarks ≡ pick (sameKept (the w p) (a .j) (homeOf P (a .from)) (a .y))
+        (getD (the w p .volatile .marks) (a .j) noMarks) noMarks
     unfolding kept marksAt
     marks-here = getD-set-same (the w p .volatile .marks) (a .j) _ noMarks (omega (arith, job-low, F .box p known .marks))
 
@@ -182,7 +198,8 @@ module _ (P : Plan) (w : World) (p : BoxNo) (known : p .0 < boxesOf P) (m : Move
             ack-same (old-v2 p known k q (rw (marks-there k u) at h))
             (λ d n. sym (kept-there k d (λ e. u (kept-apart k (a .j) d (homeOf P (a .from)) (named-low k d n) home-four e .0))))
         go (yes e) (inl t) =
-            let s : hasMark (getD (the w p .volatile .marks) k noMarks) q ≡ true = rw e (rw (e, marks-here, pick-true (getD (the w p .volatile .marks) (a .j) noMarks) noMarks t) at h) in
+            let s : hasMark (getD (the w p .volatile .marks) k noMarks) q ≡ true =
+            rw e (rw (e, marks-here, pick-true (getD (the w p .volatile .marks) (a .j) noMarks) noMarks t) at h) in
             ack-same (old-v2 p known k q s) (λ d n. kept-again t k d)
         go (yes e) (inr t) = never (rw (e, marks-here, pick-false (getD (the w p .volatile .marks) (a .j) noMarks) noMarks t) at h) (no-mark q)
 
@@ -203,7 +220,14 @@ module _ (P : Plan) (w : World) (p : BoxNo) (known : p .0 < boxesOf P) (m : Move
         go (no u) _ = old-v2 p known k q (rw (getD-set-other (the w p .volatile .marks) (a .j) k (marked (marksAt (the w p) (a .j)) (a .from)) noMarks u) at h)
         go (yes e) (yes eq) = rw (e, eq) (record { to = p; ballots = a .bs; there = a .there; entries = a .agree })
         go (yes e) (no n) =
-            let h′ = rw (e, getD-set-same (the w p .volatile .marks) (a .j) (marked (marksAt (the w p) (a .j)) (a .from)) noMarks low, mark-other (marksAt (the w p) (a .j)) (a .from) q from-low (box-ne n)) at h in
+            let h′ =
+            rw (
+              e,
+              getD-set-same (the w p .volatile .marks) (a .j) (marked (marksAt (the w p) (a .j)) (a .from)) noMarks low,
+              mark-other (marksAt (the w p) (a .j)) (a .from) q from-low (box-ne n),
+            )
+            at
+            h in
             old-v2 p known k q (rw e h′)
 
   -- ---- all boxes
@@ -260,7 +284,10 @@ module _ (P : Plan) (w : World) (p : BoxNo) (known : p .0 < boxesOf P) (m : Move
       let h : homeOf P p ≡ homeOf P (the w p .core .ballot .owner) = sym (ap (λ (q : BoxNo). homeOf P q) o) in
       merge-of P (w .post) (record { ballot = the w p .core .ballot; clock = clockStamp P (merges P w p a); table = merges P w p a .core .table })
       (the w p .volatile .vote) (voteOf (a .from) (a .y)) (F .plan) (leb-true _ _ t)
-      (record { kept = record { paper = a .y; voted = record { to = p; there = a .there }; ballot = a .same; cballot = refl; clock = refl; table = refl }; most = λ k low. a .facts .most k low })
+      (record {
+        kept = record { paper = a .y; voted = record { to = p; there = a .there }; ballot = a .same; cballot = refl; clock = refl; table = refl };
+        most = λ k low. a .facts .most k low;
+      })
       (λ e. record { kept = I .volatiles .v3 p known e; most = λ k low. vote-most (a .sound) e k low })
       (a .facts .near .from-box) (a .facts .near .home ∙ h)
       (λ e. voter-near (a .sound) e .from-box) (λ e. voter-near (a .sound) e .home ∙ ap (λ (q : BoxNo). homeOf P q) (own-is P w p known F m) ∙ h)

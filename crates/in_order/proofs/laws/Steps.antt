@@ -10,8 +10,7 @@ use lib.Dec.{leb, eqb}
 use lib.ListN.{set}
 use lib.Seq.{set-getD, getD-set-same}
 use borrow.Author.Tests.{eqb-false, eq-eqb, ne-eqb}
-use Rattle.laws.proofs.laws.Choice.{look}
-use Rattle.laws.specs.Choice.{pick-true, pick-false, and-both, not-off}
+use Rattle.laws.proofs.laws.Choice.{look, pick-true, pick-false, and-both, not-off}
 use Rattle.laws.specs.Place.{In}
 use Rattle.laws.proofs.laws.Place.{in-right}
 use Rattle.house.specs.Limits.{mostJobs}
@@ -41,7 +40,9 @@ use Rattle.in_order.proofs.laws.Laws.{raised-left}
 use Rattle.in_order.proofs.laws.Sends.{each-in}
 use Rattle.in_order.proofs.laws.Counting.{another}
 use Rattle.in_order.proofs.laws.HandOut.{Turned, hand-out}
-use Rattle.in_order.proofs.laws.Moves.{Multicasting, Accepting, Acking, Delivering, Joining, Voting, Stating, Leading, Move, m-post, m-retry, m-stand, m-cut, m-propose, m-again, m-keep, m-accept, m-mark, m-commit, m-deliver, m-join, m-hold, m-merge, m-state, m-lead, keeps, marks, commits, merges, box, sent}
+use Rattle.in_order.proofs.laws.Moves.{Multicasting, Accepting, Acking, Delivering, Joining, Voting, Stating, Leading, Move, m-post, m-retry, m-stand}
+use Rattle.in_order.proofs.laws.Moves.{m-cut, m-propose, m-again, m-keep, m-accept, m-mark, m-commit, m-deliver, m-join, m-hold, m-merge, m-state}
+use Rattle.in_order.proofs.laws.Moves.{m-lead, keeps, marks, commits, merges, box, sent}
 use Rattle.in_order.proofs.laws.Facts.{own-low}
 
 -- a move that hands out, from box y
@@ -53,12 +54,16 @@ pub record Hand (P : Plan) (w : World) (p : BoxNo) (m : Move P w p) (y : BoxStat
 -- how ballots and status change
 pub data ModeStep (P : Plan) (w : World) (p : BoxNo) (x : BoxState) : Type 0 where
   mode-same : x .core .ballot ≡ the w p .core .ballot → x .core .cballot ≡ the w p .core .cballot → x .core .status ≡ the w p .core .status → ModeStep P w p x
-  mode-join : (a : Joining P w p) → x .core .ballot ≡ a .b → x .core .cballot ≡ the w p .core .cballot → isRecovering (x .core .status) ≡ true → isLeader (x .core .status) ≡ false
+  mode-join : (a : Joining P w p) → x .core .ballot ≡ a .b → x .core .cballot ≡ the w p .core .cballot → isRecovering (x .core .status) ≡ true
+      → isLeader (x .core .status) ≡ false
       → ModeStep P w p x
-  mode-merge : (a : Voting P w p) → x .core .ballot ≡ the w p .core .ballot → x .core .cballot ≡ the w p .core .ballot → isLeader (x .core .status) ≡ false → ModeStep P w p x
-  mode-state : (a : Stating P w p) → x .core .ballot ≡ the w p .core .ballot → x .core .cballot ≡ a .y .ballot → isRecovering (x .core .status) ≡ false → isLeader (x .core .status) ≡ false
+  mode-merge : (a : Voting P w p) → x .core .ballot ≡ the w p .core .ballot → x .core .cballot ≡ the w p .core .ballot → isLeader (x .core .status) ≡ false
       → ModeStep P w p x
-  mode-lead : (a : Leading P w p) → x .core .ballot ≡ the w p .core .ballot → x .core .cballot ≡ the w p .core .cballot → isRecovering (x .core .status) ≡ false → ModeStep P w p x
+  mode-state : (a : Stating P w p) → x .core .ballot ≡ the w p .core .ballot → x .core .cballot ≡ a .y .ballot → isRecovering (x .core .status) ≡ false
+      → isLeader (x .core .status) ≡ false
+      → ModeStep P w p x
+  mode-lead : (a : Leading P w p) → x .core .ballot ≡ the w p .core .ballot → x .core .cballot ≡ the w p .core .cballot → isRecovering (x .core .status) ≡ false
+      → ModeStep P w p x
 
 -- why a row is written
 pub data Why (P : Plan) (w : World) (p : BoxNo) (x : BoxState) (l : List Rec) (j : ℕ) (r : Row) : Type 0 where
@@ -79,7 +84,8 @@ pub data TableStep (P : Plan) (w : World) (p : BoxNo) (x : BoxState) (l : List R
   wrote : x .core .cballot ≡ the w p .core .cballot → the w p .core .clock ≤ x .core .clock → (j : ℕ) (r : Row) → names P j (homeIn P (the w p)) ≡ true
       → x .core .table ≡ set (the w p .core .table) j r → Why P w p x l j r → TableStep P w p x l
   took : (a : Stating P w p) → x .core .cballot ≡ a .y .ballot → x .core .clock ≡ a .y .clock .time → x .core .table ≡ a .y .table → TableStep P w p x l
-  merged-it : (a : Voting P w p) → leb (Rattle.house.specs.Plan.quorumOf P) (Rattle.boxes.specs.NewleaderAck.votesCount (the w p .volatile .vote)) ≡ true → x ≡ merges P w p a
+  merged-it : (a : Voting P w p) → leb (Rattle.house.specs.Plan.quorumOf P) (Rattle.boxes.specs.NewleaderAck.votesCount (the w p .volatile .vote)) ≡ true
+      → x ≡ merges P w p a
       → News l (record { ballot = the w p .core .ballot; clock = clockStamp P (merges P w p a); table = merges P w p a .core .table }) → TableStep P w p x l
 
 module _ (P : Plan) (w : World) (p : BoxNo) (known : p .0 < boxesOf P) (F : Forms P w) where
@@ -99,7 +105,12 @@ module _ (P : Plan) (w : World) (p : BoxNo) (known : p .0 < boxesOf P) (F : Form
       record { flags = H .flags; box-is = H .box-is; turned = H .turned }
 
   pub proposed-is : (a : Multicasting P w p) → rowAt (the w p) (a .j) .phase ≡ 0
-      → proposed P (the w p) (a .j) ≡ putRow (the w p) (the w p .core .clock + 1) (a .j) (record { phase = 1; local = stamp (the w p .core .clock + 1) (homeIn P (the w p) .0); global = noStamp })
+      → proposed P (the w p) (a .j)
+      ≡ putRow
+      (the w p)
+      (the w p .core .clock + 1)
+      (a .j)
+      (record { phase = 1; local = stamp (the w p .core .clock + 1) (homeIn P (the w p) .0); global = noStamp })
   unfolding proposed
   proposed-is a n = pick-true _ _ (eq-eqb (rowAt (the w p) (a .j) .phase) 0 n)
 
@@ -111,22 +122,45 @@ module _ (P : Plan) (w : World) (p : BoxNo) (known : p .0 < boxesOf P) (F : Form
       let e = proposed-is a n in
       let few = plan-says P (F .plan) .jobs-most in
       let low = names-job P (a .j) (homeIn P (the w p)) (a .named) in
-      let x = putRow (the w p) (the w p .core .clock + 1) (a .j) (record { phase = 1; local = stamp (the w p .core .clock + 1) (homeIn P (the w p) .0); global = noStamp }) in
+      let x =
+      putRow
+      (the w p)
+      (the w p .core .clock + 1)
+      (a .j)
+      (record { phase = 1; local = stamp (the w p .core .clock + 1) (homeIn P (the w p) .0); global = noStamp }) in
       let q : rowIn (x .core .table) (a .j) .local ≡ stamp (the w p .core .clock + 1) (homeIn P (the w p) .0)
       = ap (λ (r : Row). r .local) (getD-set-same (the w p .core .table) (a .j) _ noRow (omega (arith, F .box p known .table))) in
-      let i = each-in P (λ q. names P (a .j) (homeOf P q)) (λ to. accept (ownOf x) to (a .j) (record { ballot = x .core .cballot; stamp = rowIn (x .core .table) (a .j) .local })) (ownOf x) (own-low (a .sound)) (a .named) in
-      let k = subst (λ (s : Stamp). In (accept (ownOf x) (ownOf x) (a .j) (record { ballot = x .core .cballot; stamp = s })) (Rattle.boxes.specs.Multicast.accepts P x (a .j))) q i in
+      let i =
+      each-in
+      P
+      (λ q. names P (a .j) (homeOf P q))
+      (λ to. accept (ownOf x) to (a .j) (record { ballot = x .core .cballot; stamp = rowIn (x .core .table) (a .j) .local }))
+      (ownOf x)
+      (own-low (a .sound))
+      (a .named) in
+      let k =
+      subst
+      (λ (s : Stamp).
+      In (accept (ownOf x) (ownOf x) (a .j) (record { ballot = x .core .cballot; stamp = s })) (Rattle.boxes.specs.Multicast.accepts P x (a .j)))
+      q
+      i in
       record { from = ownOf x; to = ownOf x; there = in-right (w .post) _ (rw e k) }
 
   -- a merge is sent to another box of the district
   merge-sent : (a : Voting P w p) (q : leb (Rattle.house.specs.Plan.quorumOf P) (Rattle.boxes.specs.NewleaderAck.votesCount (the w p .volatile .vote)) ≡ true)
-      → News (w .post ++ sent P w p (m-merge a q)) (record { ballot = the w p .core .ballot; clock = clockStamp P (merges P w p a); table = merges P w p a .core .table })
+      →
+      News
+      (w .post ++ sent P w p (m-merge a q))
+      (record { ballot = the w p .core .ballot; clock = clockStamp P (merges P w p a); table = merges P w p a .core .table })
   unfolding newStates merged
   merge-sent a q =
       let A = another P (ownOf (the w p)) (own-low (a .sound)) in
       let i = each-in P (λ r. sameHome P r (ownOf (the w p)) && not (eqb (r .0) (ownOf (the w p) .0)))
-      (λ to. new-state (ownOf (the w p)) to (record { ballot = the w p .core .ballot; clock = clockStamp P (merges P w p a); table = merges P w p a .core .table })) (A .box) (A .known)
-      (and-both (sameHome P (A .box) (ownOf (the w p))) _ (same-home-is P (A .box) (ownOf (the w p)) (A .home)) (not-off (ne-eqb (A .box .0) (ownOf (the w p) .0) (A .other)))) in
+      (λ to. new-state (ownOf (the w p)) to (record { ballot = the w p .core .ballot; clock = clockStamp P (merges P w p a); table = merges P w p a .core .table }))
+      (A .box)
+      (A .known)
+      (and-both (sameHome P (A .box) (ownOf (the w p))) _ (same-home-is P (A .box) (ownOf (the w p)) (A .home)) (not-off (ne-eqb (A .box .0) (ownOf (the w p) .0) (A .other))))
+      in
       record { from = ownOf (the w p); to = A .box; there = in-right (w .post) _ i }
 
   pub mode : (m : Move P w p) → ModeStep P w p (box P w p m)
@@ -152,7 +186,11 @@ module _ (P : Plan) (w : World) (p : BoxNo) (known : p .0 < boxesOf P) (F : Form
   mode (m-state a) = mode-state a refl refl refl refl
   mode (m-lead a) =
       let e = lead-hands a .box-is in
-      mode-lead a (ap (λ (x : BoxState). x .core .ballot) e) (ap (λ (x : BoxState). x .core .cballot) e) (ap (λ (x : BoxState). isRecovering (x .core .status)) e)
+      mode-lead
+      a
+      (ap (λ (x : BoxState). x .core .ballot) e)
+      (ap (λ (x : BoxState). x .core .cballot) e)
+      (ap (λ (x : BoxState). isRecovering (x .core .status)) e)
 
   -- an accepted job in phase 3 keeps its row
   accept-step : (a : Accepting P w p) (f : allKept P (keeps P w p a) (a .j) ≡ true) {l : List Rec}
@@ -182,7 +220,14 @@ module _ (P : Plan) (w : World) (p : BoxNo) (known : p .0 < boxesOf P) (F : Form
   table-step (m-propose a n) =
       let e = proposed-is a n in
       let c : proposed P (the w p) (a .j) .core .clock ≡ the w p .core .clock + 1 = ap (λ (x : BoxState). x .core .clock) e in
-      wrote (ap (λ (x : BoxState). x .core .cballot) e) (omega arith) (a .j) _ (a .named) (ap (λ (x : BoxState). x .core .table) e) (proposes a refl n c (propose-sent a n) refl)
+      wrote
+      (ap (λ (x : BoxState). x .core .cballot) e)
+      (omega arith)
+      (a .j)
+      _
+      (a .named)
+      (ap (λ (x : BoxState). x .core .table) e)
+      (proposes a refl n c (propose-sent a n) refl)
   table-step (m-again a n) = still refl (omega arith) refl
   table-step (m-keep a) = still refl (omega arith) refl
   table-step (m-accept a f) = accept-step a f (look (eqb (rowAt (the w p) (a .j) .phase) 3))
@@ -190,7 +235,14 @@ module _ (P : Plan) (w : World) (p : BoxNo) (known : p .0 < boxesOf P) (F : Form
   table-step (m-commit a f) =
       let e = commit-hands a f .box-is in
       let c : box P w p (m-commit a f) .core .clock ≡ the w p .core .clock = ap (λ (x : BoxState). x .core .clock) e in
-      wrote (ap (λ (x : BoxState). x .core .cballot) e) (omega arith) (a .j) _ (a .named) (ap (λ (x : BoxState). x .core .table) e) (commits-it a refl f c (commit-row a))
+      wrote
+      (ap (λ (x : BoxState). x .core .cballot) e)
+      (omega arith)
+      (a .j)
+      _
+      (a .named)
+      (ap (λ (x : BoxState). x .core .table) e)
+      (commits-it a refl f c (commit-row a))
   table-step (m-deliver a) = wrote refl (raised-left (the w p .core .clock) _) (a .j) _ (a .named) refl (delivers-it a refl refl refl)
   table-step (m-join a) = still refl (omega arith) refl
   table-step (m-hold a) = still refl (omega arith) refl

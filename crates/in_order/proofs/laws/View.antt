@@ -9,8 +9,7 @@ use native.Mathlib.Omega.{arith}
 use lib.Dec.{ltb, eqb}
 use lib.ListN.{getD, set}
 use borrow.Author.Tests.{ltb-true, eqb-true, eqb-false, eq-eqb, not-true}
-use Rattle.laws.proofs.laws.Choice.{look, never, pick-cases, and-fails, or-other, not-of}
-use Rattle.laws.specs.Choice.{pick-true, and-left, and-right}
+use Rattle.laws.proofs.laws.Choice.{look, never, pick-cases, and-fails, or-other, not-of, pick-true, and-left, and-right}
 use Rattle.laws.proofs.laws.Fold.{all-says}
 use Rattle.laws.specs.Place.{In}
 use Rattle.laws.proofs.laws.Place.{at-getD}
@@ -24,7 +23,8 @@ use Rattle.house.specs.declared.District.{District}
 use Rattle.house.specs.Plan.{boxesOf, homeOf, names, planSound}
 use Rattle.house.proofs.laws.Says.{plan-says, size-real, home-box, names-district}
 use Rattle.house.specs.declared.Plan.{Plan}
-use Rattle.records.specs.Rec.{Rec, Proposal, Handout, Ballotpaper, NewState, multicast, accept, accept-ack, deliver, newleader, newleader-ack, new-state, newstate-ack, unknown, carried, addresseeOf}
+use Rattle.records.specs.Rec.{Rec, Proposal, Handout, Ballotpaper, NewState, multicast, accept, accept-ack, deliver, newleader, newleader-ack, new-state}
+use Rattle.records.specs.Rec.{newstate-ack, unknown, carried, addresseeOf}
 use Rattle.records.proofs.laws.Rec.{meaning-carried}
 use Rattle.records.specs.Rules.{rules}
 use Rattle.boxes.specs.Box.{homeIn, rowAt, keptBallot, lastStamp}
@@ -46,9 +46,12 @@ use Rattle.world.specs.World.{World, Order, post, stand, retry, cut, carry, rec
 use Rattle.in_order.proofs.laws.Notions.{the, ballotAt}
 use Rattle.records.proofs.laws.Obeys.{valid-rules}
 use Rattle.boxes.proofs.laws.Sound.{SoundBox, sound-says}
-use Rattle.in_order.proofs.laws.Facts.{multicast-says, AcceptFacts, accept-says, AckFacts, ack-says, DeliverFacts, deliver-says, LeaderFacts, newleader-says, VoteFacts, vote-says, StateFacts, state-says, NsaFacts, nsa-says}
+use Rattle.in_order.proofs.laws.Facts.{multicast-says, AcceptFacts, accept-says, AckFacts, ack-says, DeliverFacts, deliver-says, LeaderFacts}
+use Rattle.in_order.proofs.laws.Facts.{newleader-says, VoteFacts, vote-says, StateFacts, state-says, NsaFacts, nsa-says}
 use Rattle.in_order.proofs.laws.Sends.{clash, guard-does, does-box, does-sent}
-use Rattle.in_order.proofs.laws.Moves.{Multicasting, Accepting, Acking, Delivering, Joining, Voting, Stating, Leading, Move, m-post, m-retry, m-stand, m-cut, m-propose, m-again, m-keep, m-accept, m-mark, m-commit, m-deliver, m-join, m-hold, m-merge, m-state, m-lead, Does, next}
+use Rattle.in_order.proofs.laws.Moves.{Multicasting, Accepting, Acking, Delivering, Joining, Voting, Stating, Leading, Move, m-post, m-retry, m-stand}
+use Rattle.in_order.proofs.laws.Moves.{m-cut, m-propose, m-again, m-keep, m-accept, m-mark, m-commit, m-deliver, m-join, m-hold, m-merge, m-state}
+use Rattle.in_order.proofs.laws.Moves.{m-lead, Does, next}
 
 no-does : {A : Type 0} {n : ℕ} {x : BoxState} {l : List Rec} {d : Delivery} → refused n ≡ does x l d → A
 no-does e = clash (cc)
@@ -65,11 +68,13 @@ module _ (P : Plan) (w : World) (from p : BoxNo) (S : SoundBox P (the w p)) {x :
       go (record { j = j; sound = S; named = g₁ .0; lead = g₂ .0 }) refl (look (eqb (rowAt (the w p) j .phase) 0)) (g₃ .1)
     where
       go : (a : Multicasting P w p) → a .j ≡ j → (eqb (rowAt (the w p) j .phase) 0 ≡ true) ⊎ (eqb (rowAt (the w p) j .phase) 0 ≡ false)
-          → does (proposed P (the w p) j) (accepts P (proposed P (the w p) j) j) Rattle.boxes.specs.declared.Delivery.the-variants.Nothing ≡ does x l d → Does P w p x l
+          → does (proposed P (the w p) j) (accepts P (proposed P (the w p) j) j) Rattle.boxes.specs.declared.Delivery.the-variants.Nothing ≡ does x l d
+          → Does P w p x l
       go a ej (inl t) k =
-          record { known = known; move = m-propose a (rw ej (eqb-true (rowAt (the w p) j .phase) 0 t)); box-is = does-box k ∙ rw ej; sent-is = does-sent k ∙ rw ej }
+          record
+          { known = known; move = m-propose a (rw ej (eqb-true (rowAt (the w p) j .phase) 0 t)); box-is = does-box k ∙ rw ej; sent-is = does-sent k ∙ rw ej }
       go a ej (inr t) k =
-          let same : proposed P (the w p) j ≡ the w p = Rattle.laws.specs.Choice.pick-false _ _ t in
+          let same : proposed P (the w p) j ≡ the w p = Rattle.laws.proofs.laws.Choice.pick-false _ _ t in
           record {
             known = known;
             move = m-again a (rw ej (eqb-false (rowAt (the w p) j .phase) 0 t));
@@ -77,7 +82,8 @@ module _ (P : Plan) (w : World) (from p : BoxNo) (S : SoundBox P (the w p)) {x :
             sent-is = does-sent k ∙ rw (same, ej);
           }
 
-  accept-does : (j : ℕ) (y : Proposal) → In (accept from p j y) (w .post) → AcceptFacts P from p j y → onAccept P (the w p) from j y ≡ does x l d → Does P w p x l
+  accept-does : (j : ℕ) (y : Proposal) → In (accept from p j y) (w .post) → AcceptFacts P from p j y → onAccept P (the w p) from j y ≡ does x l d
+      → Does P w p x l
   unfolding onAccept whenKept ballotFits
   accept-does j y i F e =
       let g₁ = guard-does _ _ _ (simp under-or at e) in
@@ -100,7 +106,8 @@ module _ (P : Plan) (w : World) (from p : BoxNo) (S : SoundBox P (the w p)) {x :
       (λ t k. record { known = F .to-box; move = m-accept a t; box-is = does-box k; sent-is = does-sent k })
       (λ t k. record { known = F .to-box; move = m-keep a; box-is = does-box k; sent-is = does-sent k })
 
-  ack-does : (j : ℕ) (bs : List Ballot) → In (accept-ack from p j bs) (w .post) → AckFacts P from p j → onAcceptAck P (the w p) from j bs ≡ does x l d → Does P w p x l
+  ack-does : (j : ℕ) (bs : List Ballot) → In (accept-ack from p j bs) (w .post) → AckFacts P from p j → onAcceptAck P (the w p) from j bs ≡ does x l d
+      → Does P w p x l
   unfolding onAcceptAck whenMarked agree agreeBelow
   ack-does j bs i F e =
       let g₁ = guard-does _ _ _ (simp under-or at e) in
@@ -119,9 +126,15 @@ module _ (P : Plan) (w : World) (from p : BoxNo) (S : SoundBox P (the w p)) {x :
         lead = g₂ .0;
         agree = λ h n. ballotOrder .eq-says (ballotAt bs h) (keptBallot (the w p) j h)
             (or-other (not (names P j h)) _
-            (all-says (λ d. not (names P j (district d)) || sameBallot (getD bs d noBallot) (keptBallot (the w p) j (district d))) (P .districts) all (h .0) (names-district P j h (S .plan) n))
+            (all-says
+            (λ d. not (names P j (district d)) || sameBallot (getD bs d noBallot) (keptBallot (the w p) j (district d)))
+            (P .districts)
+            all
+            (h .0)
+            (names-district P j h (S .plan) n))
             (not-of n));
-        own = ballotOrder .eq-says (ballotAt bs (homeIn P (the w p))) (the w p .core .cballot) (and-right (agreeBelow P (the w p) j bs (P .districts)) _ (g₃ .0));
+        own =
+            ballotOrder .eq-says (ballotAt bs (homeIn P (the w p))) (the w p .core .cballot) (and-right (agreeBelow P (the w p) j bs (P .districts)) _ (g₃ .0));
         pending = eqb-false _ _ (not-true _ (and-left (not (eqb (rowAt (the w p) j .phase) 3)) _ (g₄ .0)));
       } in
       pick-cases _ _ _ (g₄ .1)
@@ -211,7 +224,8 @@ module _ (P : Plan) (w : World) (from p : BoxNo) (S : SoundBox P (the w p)) {x :
       } in
       record { known = F .apart .near .to-box; move = m-lead a; box-is = does-box (g₂ .1); sent-is = does-sent (g₂ .1) }
 
-react-does : (P : Plan) (w : World) (r : Rec) → In r (w .post) → rules P r ≡ true → SoundBox P (the w (addresseeOf r)) → (x : BoxState) (l : List Rec) (d : Delivery)
+react-does : (P : Plan) (w : World) (r : Rec) → In r (w .post) → rules P r ≡ true → SoundBox P (the w (addresseeOf r))
+    → (x : BoxState) (l : List Rec) (d : Delivery)
     → react P (the w (addresseeOf r)) r ≡ does x l d → Does P w (addresseeOf r) x l
 unfolding react addresseeOf carried
 react-does P w (multicast from to j) i v S x l d e = multicast-does P w from to S j (multicast-says P from to j v) e
@@ -239,7 +253,8 @@ takes-does P w r i x l d e =
     let g₄ = guard-does _ _ _ (g₃ .1) in
     react-does P w r i (valid-rules P r (g₃ .0)) (sound-says P (the w (addresseeOf r)) (g₁ .0)) x l d (rw (meaning-carried r) at (g₄ .1))
 
-acts-does : (P : Plan) (w : World) (o : Order) → planSound P ≡ true → exists P w o ≡ true → (x : BoxState) (l : List Rec) (d : Delivery) → acts P w o ≡ does x l d
+acts-does : (P : Plan) (w : World) (o : Order) → planSound P ≡ true → exists P w o ≡ true → (x : BoxState) (l : List Rec) (d : Delivery)
+    → acts P w o ≡ does x l d
     → Does P w (boxNo (whose w o)) x l
 unfolding acts whose exists retried stood cutOff Rattle.boxes.specs.Retry.retry Rattle.boxes.specs.Stand.stand
 acts-does P w (post j) s v x l d e = record { known = some-box P s; move = m-post j; box-is = does-box e; sent-is = does-sent e }
@@ -254,7 +269,8 @@ acts-does P w (retry p j) s v x l d e =
     let g₃ = guard-does _ _ _ (g₂ .1) in
     let g₄ = guard-does _ _ _ (g₃ .1) in
     record { known = ltb-true _ _ (and-left (ltb p (boxesOf P)) _ v); move = m-retry j; box-is = does-box (g₄ .1); sent-is = does-sent (g₄ .1) }
-acts-does P w (cut p) s v x l d e = let g₁ = guard-does _ _ _ e in record { known = ltb-true _ _ v; move = m-cut; box-is = does-box (g₁ .1); sent-is = does-sent (g₁ .1) }
+acts-does P w (cut p) s v x l d e =
+    let g₁ = guard-does _ _ _ e in record { known = ltb-true _ _ v; move = m-cut; box-is = does-box (g₁ .1); sent-is = does-sent (g₁ .1) }
 acts-does P w (carry k) s v x l d e = takes-does P w (recordAt w k) (record { place = k; there = at-getD (w .post) k unknown (ltb-true _ _ v) }) x l d e
 
 -- ---- the view

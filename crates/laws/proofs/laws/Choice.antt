@@ -1,10 +1,33 @@
 -- Laws of what specs/Choice.antt defines.
-use Prim.Native.Nat.{ℕ}
 use mathlib.Core.Bool.{Bool, true, false, not, _&&_, _||_}
-use mathlib.Core.Logic.{_⊎_, inl, inr}
 use mathlib.Core.Path.{_≡_, refl}
+use Prim.Native.Nat.{ℕ}
+use mathlib.Core.Logic.{_⊎_, inl, inr}
 use native.Mathlib.Omega.{arith}
-use Rattle.laws.specs.Choice.{pick, and-left, and-right}
+use Rattle.laws.specs.Choice.{pick}
+
+pub pick-true : {A : Type 0} {t : Bool} (a b : A) → t ≡ true → pick t a b ≡ a
+unfolding pick
+pick-true a b e = rw e
+
+pub pick-false : {A : Type 0} {t : Bool} (a b : A) → t ≡ false → pick t a b ≡ b
+unfolding pick
+pick-false a b e = rw e
+
+pub and-left : (a b : Bool) → a && b ≡ true → a ≡ true
+and-left true b h = refl
+and-left false b h = h
+
+pub and-right : (a b : Bool) → a && b ≡ true → b ≡ true
+and-right true b h = h
+and-right false b h = cc
+
+pub and-both : (a b : Bool) → a ≡ true → b ≡ true → a && b ≡ true
+and-both true b p q = q
+and-both false b p q = p
+
+pub not-off : {a : Bool} → a ≡ false → not a ≡ true
+not-off e = rw e
 
 -- both ways of a choice, each with what its test says
 pub pick-cases : {A C : Type 0} (t : Bool) (a b : A) {c : A} → pick t a b ≡ c → (t ≡ true → a ≡ c → C) → (t ≡ false → b ≡ c → C) → C
@@ -29,12 +52,6 @@ pub pick-ap : {A B : Type 0} (f : A → B) (t : Bool) (a b : A) → f (pick t a 
 unfolding pick
 pick-ap f true a b = refl
 pick-ap f false a b = refl
-
--- a choice between one thing and itself
-pub pick-same : {A : Type 0} (t : Bool) (a : A) → pick t a a ≡ a
-unfolding pick
-pick-same true a = refl
-pick-same false a = refl
 
 -- a test holds or fails, with the equation
 pub look : (t : Bool) → (t ≡ true) ⊎ (t ≡ false)

@@ -4,7 +4,8 @@ use mathlib.Core.Bool.{Bool, true, false}
 use mathlib.Core.List.{List, [], _∷_}
 use mathlib.Core.Logic.{_≢_}
 use mathlib.Core.Path.{_≡_, refl, sym, ap, _∙_}
-use native.Mathlib.Nat.{div-eq-of-lt, div-one, div-div-eq-div-mul, lt-of-lt-of-le, pow-suc, pow-zero, mul-comm, mod-eq-of-lt, zero-mod, zero-div, one-mul, mod-lt}
+use native.Mathlib.Nat.{div-eq-of-lt, div-one, div-div-eq-div-mul, lt-of-lt-of-le, pow-suc, pow-zero, mul-comm, mod-eq-of-lt, zero-mod, zero-div, one-mul}
+use native.Mathlib.Nat.{mod-lt}
 use native.Mathlib.Omega.{arith}
 use lib.ListN.{length, getD}
 use lib.Dec.{eqb, lit<}
@@ -38,7 +39,8 @@ part-digit n i k r h =
     let e : k - r ≡ (k - r - 1) + 1 = omega arith in
     let s : k ≡ (k - r) + r = omega arith in
     let f : n / 2 ^ i % 2 ^ k / 2 ^ r ≡ n / 2 ^ i / 2 ^ r % 2 ^ (k - r) = ap (λ (x : ℕ). n / 2 ^ i % 2 ^ x / 2 ^ r) s ∙ field (n / 2 ^ i) (k - r) r in
-    let g : n / 2 ^ i / 2 ^ r % 2 ^ (k - r) % 2 ≡ n / 2 ^ i / 2 ^ r % 2 = ap (λ (x : ℕ). n / 2 ^ i / 2 ^ r % 2 ^ x % 2) e ∙ mod-mod-pow (n / 2 ^ i / 2 ^ r) (k - r - 1) 1 in
+    let g : n / 2 ^ i / 2 ^ r % 2 ^ (k - r) % 2 ≡ n / 2 ^ i / 2 ^ r % 2 =
+    ap (λ (x : ℕ). n / 2 ^ i / 2 ^ r % 2 ^ x % 2) e ∙ mod-mod-pow (n / 2 ^ i / 2 ^ r) (k - r - 1) 1 in
     rw (f, g, shr-shr n i r)
 
 -- no digit of 0 is set

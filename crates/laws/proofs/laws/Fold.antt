@@ -9,8 +9,7 @@ use native.Mathlib.Numerals.{add-one}
 use native.Mathlib.Omega.{arith}
 use lib.ListN.{length, take, getD}
 use lib.Seq.{take-suc}
-use Rattle.laws.specs.Choice.{and-left, and-right, and-both}
-use Rattle.laws.proofs.laws.Choice.{or-cases, or-left, or-right, or-other, or-if, not-so}
+use Rattle.laws.proofs.laws.Choice.{and-left, and-right, and-both, or-cases, or-left, or-right, or-other, or-if, not-so}
 use Rattle.laws.specs.Fold.{upto, allBelow, someBelow}
 use lib.Dec.{ltb}
 use borrow.Author.Tests.{ltb-false, le-ltb}
@@ -36,7 +35,10 @@ pub all-says : (t : ℕ → Bool) (n : ℕ) → allBelow t n ≡ true → (i : �
 unfolding allBelow
 all-says t zero h i l = absurd (omega arith)
 all-says t (suc n) h i l =
-    ⊎-elim (λ e. rw e (and-right (allBelow t n) (t n) h)) (λ b. all-says t n (and-left (allBelow t n) (t n) h) i b) (eq-or-lt-of-le {n = i} {m = n} (omega arith))
+    ⊎-elim
+    (λ e. rw e (and-right (allBelow t n) (t n) h))
+    (λ b. all-says t n (and-left (allBelow t n) (t n) h) i b)
+    (eq-or-lt-of-le {n = i} {m = n} (omega arith))
 
 pub all-is : (t : ℕ → Bool) (n : ℕ) → ((i : ℕ) → i < n → t i ≡ true) → allBelow t n ≡ true
 unfolding allBelow
@@ -60,7 +62,10 @@ pub some-is : (t : ℕ → Bool) (n i : ℕ) → i < n → t i ≡ true → some
 unfolding someBelow
 some-is t zero i l h = absurd (omega arith)
 some-is t (suc n) i l h =
-    ⊎-elim (λ e. or-right (someBelow t n) (t n) (rw e at h)) (λ b. or-left (someBelow t n) (t n) (some-is t n i b h)) (eq-or-lt-of-le {n = i} {m = n} (omega arith))
+    ⊎-elim
+    (λ e. or-right (someBelow t n) (t n) (rw e at h))
+    (λ b. or-left (someBelow t n) (t n) (some-is t n i b h))
+    (eq-or-lt-of-le {n = i} {m = n} (omega arith))
 
 -- one element more of a fold over a list
 pub over-step : {S : Type 0} (f : S → ℕ → S) (s : S) (l : List ℕ) (i : ℕ) → i < length l → f (foldl f s (take i l)) (getD l i 0) ≡ foldl f s (take (i + 1) l)

@@ -7,9 +7,8 @@ use mathlib.Core.Path.{_≡_, refl, sym}
 use native.Mathlib.Nat.{mul-le-mul-right, suc-mul}
 use native.Mathlib.Omega.{arith}
 use lib.Dec.{ltb, eqb}
-use borrow.Author.Tests.{ltb-true, ltb-false, eqb-true, eqb-false, lt-ltb, le-ltb, eq-eqb}
-use Rattle.laws.proofs.laws.Choice.{pick-when, look, never, and-fails, or-cases, or-fails, or-left, or-right}
-use Rattle.laws.specs.Choice.{and-left, and-right, and-both}
+use borrow.Author.Tests.{ltb-true, ltb-false, eqb-true, lt-ltb, le-ltb, eq-eqb}
+use Rattle.laws.proofs.laws.Choice.{pick-when, look, never, or-cases, or-left, or-right, and-left, and-right, and-both}
 use Rattle.laws.specs.Place.{In}
 use Rattle.laws.proofs.laws.Place.{in-head, in-nil}
 use Rattle.laws.specs.Lex.{lexLt, lexEq, Three, less, same, more, Order, larger, largest}
@@ -35,10 +34,6 @@ below-trans (first h) (first k) = first (omega arith)
 below-trans (first h) (second i k) = first (omega arith)
 below-trans (second i h) (first k) = first (omega arith)
 below-trans (second i h) (second j k) = second (omega arith) (omega arith)
-
-below-irrefl : {a b : ℕ} → Below a b a b → ⊥
-below-irrefl (first h) = omega arith
-below-irrefl (second e h) = omega arith
 
 -- the instance for any type of two numbers
 module _ (A : Type 0) (f g : A → ℕ) (ext : (a b : A) → f a ≡ f b → g a ≡ g b → a ≡ b) (none : A) (f-none : f none ≡ 0) (g-none : g none ≡ 0) where
@@ -77,7 +72,13 @@ module _ (A : Type 0) (f g : A → ℕ) (ext : (a b : A) → f a ≡ f b → g a
         trans = lt-trans;
         irrefl = lt-irrefl;
         three = lt-three;
-        eq-says = λ a b h. ext a b (eqb-true (f a) (f b) (and-left (eqb (f a) (f b)) (eqb (g a) (g b)) h)) (eqb-true (g a) (g b) (and-right (eqb (f a) (f b)) (eqb (g a) (g b)) h));
+        eq-says =
+            λ a b h.
+            ext
+            a
+            b
+            (eqb-true (f a) (f b) (and-left (eqb (f a) (f b)) (eqb (g a) (g b)) h))
+            (eqb-true (g a) (g b) (and-right (eqb (f a) (f b)) (eqb (g a) (g b)) h));
         eq-is = λ a. and-both (eqb (f a) (f a)) (eqb (g a) (g a)) (eq-eqb (f a) (f a) refl) (eq-eqb (g a) (g a) refl);
         lowest = lt-lowest;
       }
@@ -109,14 +110,6 @@ module _ {A : Type 0} {lt eq : A → A → Bool} {none : A} (O : Order A lt eq n
       go (inr h) _ = h
       go (inl h) (inl k) = never (O .trans c a b h k) q
       go (inl h) (inr e) = never (rw e at h) q
-
-  -- below, then not above
-  pub lt-le : (a b c : A) → lt a b ≡ true → lt c b ≡ false → lt a c ≡ true
-  lt-le a b c p q = go (lt-or-eq b c q)
-    where
-      go : (lt b c ≡ true) ⊎ (b ≡ c) → lt a c ≡ true
-      go (inl h) = O .trans a b c p h
-      go (inr e) = rw e at p
 
   pub le-lt : (a b c : A) → lt b a ≡ false → lt b c ≡ true → lt a c ≡ true
   le-lt a b c p q = go (lt-or-eq a b p)
@@ -172,29 +165,3 @@ module _ (k : ℕ) where
       go : Below a b c d → a * k + b < c * k + d
       go (first h) = let m = lex-step a c h in omega arith
       go (second i h) = rw i (omega arith)
-
-  pub lex-rank-not : (a b c d : ℕ) → b < k → d < k → lexLt a b c d ≡ false → c * k + d ≤ a * k + b
-  lex-rank-not a b c d hb hd e =
-      let n = or-fails (ltb a c) (eqb a c && ltb b d) e in
-      go (ltb-false a c (n .0)) (look (ltb c a)) (and-fails (eqb a c) (ltb b d) (n .1))
-    where
-      go : c ≤ a → (ltb c a ≡ true) ⊎ (ltb c a ≡ false) → (eqb a c ≡ false) ⊎ (ltb b d ≡ false) → c * k + d ≤ a * k + b
-      go l (inl h) _ = let m = lex-step c a (ltb-true c a h) in omega arith
-      go l (inr h) (inl u) = absurd (eqb-false a c u (omega (arith, ltb-false)))
-      go l (inr h) (inr u) = let q : a ≡ c = omega (arith, ltb-false) in let v = ltb-false b d u in rw q (omega arith)
-
-  -- and back
-  pub rank-lex : (a b c d : ℕ) → b < k → d < k → a * k + b < c * k + d → lexLt a b c d ≡ true
-  rank-lex a b c d hb hd h = go (look (lexLt a b c d))
-    where
-      go : (lexLt a b c d ≡ true) ⊎ (lexLt a b c d ≡ false) → lexLt a b c d ≡ true
-      go (inl e) = e
-      go (inr e) = let m = lex-rank-not a b c d hb hd e in absurd (omega arith)
-
-  pub rank-inj : (a b c d : ℕ) → b < k → d < k → a * k + b ≡ c * k + d → (a ≡ c) × (b ≡ d)
-  rank-inj a b c d hb hd e = go (look (ltb a c)) (look (ltb c a))
-    where
-      go : (ltb a c ≡ true) ⊎ (ltb a c ≡ false) → (ltb c a ≡ true) ⊎ (ltb c a ≡ false) → (a ≡ c) × (b ≡ d)
-      go (inl h) _ = let m = lex-step a c (ltb-true a c h) in absurd (omega arith)
-      go (inr h) (inl u) = let m = lex-step c a (ltb-true c a u) in absurd (omega arith)
-      go (inr h) (inr u) = let q : a ≡ c = omega (arith, ltb-false) in let z : a * k ≡ c * k = rw q in (q, omega arith)

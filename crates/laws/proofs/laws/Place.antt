@@ -98,9 +98,6 @@ module _ {A : Type 0} where
       go (inl e) = e
       go (inr i) = absurd (in-nil i)
 
-  pub in-here : (l : List A) (a : A) → In a (l ++ (a ∷ []))
-  in-here l a = in-right l (a ∷ []) (record { place = 0; there = refl })
-
   pub begins-refl : (l : List A) → Begins l l
   begins-refl l = record { rest = []; split = sym (append-nil l) }
 
@@ -153,7 +150,8 @@ find {A} t (x ∷ l) = go (look (t x)) (find t l)
         at m (inr k) = f m k
 
 -- what holds of the new element at its place and of the old ones elsewhere holds after a place is set
-pub at-each : {A : Type 0} (Q : A → Type 0) (l : List A) (i k : ℕ) (a d : A) → i < length l → (k ≡ i → Q a) → (k ≢ i → Q (getD l k d)) → Q (getD (set l i a) k d)
+pub at-each : {A : Type 0} (Q : A → Type 0) (l : List A) (i k : ℕ) (a d : A) → i < length l → (k ≡ i → Q a) → (k ≢ i → Q (getD l k d))
+    → Q (getD (set l i a) k d)
 at-each Q l i k a d h f g = go (ℕ-discrete k i)
   where
     go : Dec (k ≡ i) → Q (getD (set l i a) k d)

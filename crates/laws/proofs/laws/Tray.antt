@@ -1,9 +1,9 @@
 -- Laws of what specs/Tray.antt defines.
-use Prim.Native.Nat.{ℕ, zero, suc, _+_, _-_, _*_, _<_, _≤_}
+use Prim.Native.Nat.{ℕ, zero, suc, _+_, _-_, _<_, _≤_}
 use mathlib.Core.List.{List, [], _++_, append-assoc, append-nil}
 use mathlib.Core.Logic.{_⊎_, inl, inr}
 use mathlib.Core.Path.{_≡_, refl, sym, _∙_}
-use native.Mathlib.Nat.{zero-add, suc-mul, eq-or-lt-of-le}
+use native.Mathlib.Nat.{zero-add, eq-or-lt-of-le}
 use native.Mathlib.Omega.{arith}
 use lib.ListN.{length, take, drop, length-append, length-drop, drop-of-length-le}
 use lib.Seq.{take-all, take-length, sets, sets-eq, take-append-seam, drop-append-seam, drop-drop, take-at}
@@ -41,7 +41,14 @@ onto-onto x y t = rw (take-append-seam, drop-append-seam, length-append, drop-dr
 -- l is t with x over its front, and m, what came home of l[n..], is that part with y over its front
 pub behind : (x y t l m : List ℕ) (n : ℕ) → n ≡ length x → l ≡ onto x t → m ≡ onto y (midOf n (length l - n) l) → putMid n (length l - n) l m ≡ onto (x ++ y) t
 behind x y t l m n en el em =
-    rw (em, take-all (length l - n) (drop n l) (rw length-drop (omega arith)), drop-of-length-le (drop n l) {i = length l - n} (rw length-drop (omega arith)), append-nil, en, el)
+    rw (
+      em,
+      take-all (length l - n) (drop n l) (rw length-drop (omega arith)),
+      drop-of-length-le (drop n l) {i = length l - n} (rw length-drop (omega arith)),
+      append-nil,
+      en,
+      el,
+    )
     (onto-onto x y t)
 
 -- one writer behind another: the count and the bytes
@@ -67,18 +74,7 @@ unfolding allFor
 for-room f zero i h = absurd (omega arith)
 for-room f (suc n) i h = rw length-append (go (eq-or-lt-of-le {n = i} {m = n} (omega arith)) (λ l. for-room f n i l))
   where
-    go : (i ≡ n) ⊎ (i < n) → (i < n → length (allFor f i) + length (f i) ≤ length (allFor f n)) → length (allFor f i) + length (f i) ≤ length (allFor f n) + length (f n)
+    go : (i ≡ n) ⊎ (i < n) → (i < n → length (allFor f i) + length (f i) ≤ length (allFor f n))
+        → length (allFor f i) + length (f i) ≤ length (allFor f n) + length (f n)
     go (inl e) r = rw e (omega arith)
     go (inr l) r = let k = r l in omega arith
-
--- n times a fixed length
-pub for-length : (f : ℕ → List ℕ) (m : ℕ) → ((k : ℕ) → length (f k) ≡ m) → (n : ℕ) → length (allFor f n) ≡ n * m
-unfolding allFor
-for-length f m h zero = omega arith
-for-length f m h (suc n) = let i = for-length f m h n in let k = h n in rw (length-append, suc-mul) (omega arith)
-
--- at most n times a bound
-pub for-most : (f : ℕ → List ℕ) (m : ℕ) → ((k : ℕ) → length (f k) ≤ m) → (n : ℕ) → length (allFor f n) ≤ n * m
-unfolding allFor
-for-most f m h zero = omega arith
-for-most f m h (suc n) = let i = for-most f m h n in let k = h n in rw (length-append, suc-mul) (omega arith)

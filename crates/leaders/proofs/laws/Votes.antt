@@ -8,8 +8,8 @@ use native.Mathlib.Omega.{arith}
 use lib.ListN.{set}
 use lib.Dec.{leb, ltb, eqb}
 use borrow.Author.Tests.{leb-true, le-ltb}
-use Rattle.laws.specs.Choice.{pick, pick-true, pick-false}
-use Rattle.laws.proofs.laws.Choice.{look}
+use Rattle.laws.specs.Choice.{pick}
+use Rattle.laws.proofs.laws.Choice.{pick-true, pick-false, look}
 use Rattle.laws.proofs.laws.Fold.{upto-step}
 use Rattle.laws.specs.Lex.{larger}
 use Rattle.laws.specs.Majority.{majority}

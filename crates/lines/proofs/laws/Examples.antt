@@ -20,7 +20,74 @@ unreadable-lines = refl
 
 -- `districts 1`, `job 1`, an empty line, `stand 0`, and `post 0` without LF
 pub whole-input :
-    ordersOf (100 ∷ 105 ∷ 115 ∷ 116 ∷ 114 ∷ 105 ∷ 99 ∷ 116 ∷ 115 ∷ 32 ∷ 49 ∷ 10 ∷ 106 ∷ 111 ∷ 98 ∷ 32 ∷ 49 ∷ 10 ∷ 10 ∷ 115 ∷ 116 ∷ 97 ∷ 110 ∷ 100 ∷ 32 ∷ 48 ∷ 10 ∷ 112 ∷ 111 ∷ 115 ∷ 116 ∷ 32 ∷ 48 ∷ [])
+    ordersOf
+    (100
+    ∷
+    105
+    ∷
+    115
+    ∷
+    116
+    ∷
+    114
+    ∷
+    105
+    ∷
+    99
+    ∷
+    116
+    ∷
+    115
+    ∷
+    32
+    ∷
+    49
+    ∷
+    10
+    ∷
+    106
+    ∷
+    111
+    ∷
+    98
+    ∷
+    32
+    ∷
+    49
+    ∷
+    10
+    ∷
+    10
+    ∷
+    115
+    ∷
+    116
+    ∷
+    97
+    ∷
+    110
+    ∷
+    100
+    ∷
+    32
+    ∷
+    48
+    ∷
+    10
+    ∷
+    112
+    ∷
+    111
+    ∷
+    115
+    ∷
+    116
+    ∷
+    32
+    ∷
+    48
+    ∷
+    [])
     ≡ Districts 1 ∷ Job 1 ∷ Unreadable ∷ Stand 0 ∷ Post 0 ∷ []
 unfolding ordersOf oneNumber orderOfWords orderOfLine same every inFront parts isNumber valueOf pick
 whole-input = refl

@@ -9,11 +9,10 @@ use native.Mathlib.Omega.{arith}
 use lib.ListN.{length, getD, length-append}
 use lib.Dec.{leb, ltb, eqb, lit<, lit≤}
 use borrow.Author.Tests.{le-leb, leb-true, ltb-true, ltb-false, ne-eqb}
-use Rattle.laws.proofs.laws.Choice.{pick-when, never}
-use Rattle.laws.specs.Choice.{and-left, and-right, not-off}
-use Rattle.lines.specs.Parts.{space, every, without}
-use Rattle.lines.specs.PartLaws.{every-append, every-one}
-use Rattle.lines.proofs.laws.PartLaws.{every-at, every-weaker}
+use Rattle.laws.proofs.laws.Choice.{pick-when, never, and-left, and-right, not-off}
+use Rattle.lines.specs.Parts.{space, every}
+use Rattle.lines.proofs.laws.Parts.{without}
+use Rattle.lines.proofs.laws.PartLaws.{every-append, every-one, every-at, every-weaker}
 use Rattle.lines.specs.Numeral.{isDigit, allDigits, isNumber, valueOf, inDigits, decimal}
 
 -- digits alone have no other byte among them
@@ -50,7 +49,9 @@ digits-all zero n = refl
 digits-all (suc f) n =
     in-digits (λ (l : List ℕ). allDigits l ≡ true) f n
     (λ h. every-one isDigit (48 + n) ∙ digit-is n h)
-    (λ h. every-append isDigit (inDigits f (n / 10)) ((48 + n % 10) ∷ []) ∙ rw (digits-all f (n / 10)) (every-one isDigit (48 + n % 10) ∙ digit-is (n % 10) (omega arith)))
+    (λ h.
+    every-append isDigit (inDigits f (n / 10)) ((48 + n % 10) ∷ [])
+    ∙ rw (digits-all f (n / 10)) (every-one isDigit (48 + n % 10) ∙ digit-is (n % 10) (omega arith)))
 
 digits-value : (f n : ℕ) → n < 10 ^ f → valueOf (inDigits f n) ≡ n
 unfolding inDigits valueOf
@@ -58,7 +59,9 @@ digits-value zero n h = omega arith
 digits-value (suc f) n h =
     in-digits (λ (l : List ℕ). valueOf l ≡ n) f n
     (λ k. omega arith)
-    (λ k. foldl-append (λ (v b : ℕ). v * 10 + (b - 48)) 0 (inDigits f (n / 10)) ((48 + n % 10) ∷ []) ∙ rw (digits-value f (n / 10) (div-lt-iff-lt-mul (lit< tt) .1 (rw pow-suc at h))) (omega arith))
+    (λ k.
+    foldl-append (λ (v b : ℕ). v * 10 + (b - 48)) 0 (inDigits f (n / 10)) ((48 + n % 10) ∷ [])
+    ∙ rw (digits-value f (n / 10) (div-lt-iff-lt-mul (lit< tt) .1 (rw pow-suc at h))) (omega arith))
 
 digits-some : (f n : ℕ) → 1 ≤ length (inDigits (suc f) n)
 digits-some f n =

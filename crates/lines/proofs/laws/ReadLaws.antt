@@ -7,7 +7,8 @@ use mathlib.Core.Path.{_≡_, refl, sym, ap, _∙_}
 use lib.ListN.{length, take}
 use lib.Dec.{ltb, leb}
 use borrow.Author.Tests.{lt-ltb, ltb-true, ltb-false, le-leb, lt-leb}
-use Rattle.laws.specs.Choice.{pick, pick-true}
+use Rattle.laws.specs.Choice.{pick}
+use Rattle.laws.proofs.laws.Choice.{pick-true}
 use Rattle.lines.specs.Parts.{same, words}
 use Rattle.lines.proofs.laws.PartLaws.{same-eq}
 use Rattle.lines.specs.Numeral.{isNumber, valueOf}
@@ -51,7 +52,8 @@ words-say : (ws : List (List ℕ)) → Says (orderOfWords ws) (areOrder ws) (fir
 unfolding orderOfWords areOrder firstWord numbersBehind pick
 words-say [] = (refl, refl)
 words-say (w ∷ []) = (refl, refl)
-words-say (w ∷ n ∷ []) = both (among w (districts ∷ job ∷ post ∷ stand ∷ cut ∷ carry ∷ [])) (isNumber n) (oneNumber w (valueOf n)) w (valueOf n ∷ []) (one-says w (valueOf n))
+words-say (w ∷ n ∷ []) =
+    both (among w (districts ∷ job ∷ post ∷ stand ∷ cut ∷ carry ∷ [])) (isNumber n) (oneNumber w (valueOf n)) w (valueOf n ∷ []) (one-says w (valueOf n))
 words-say (w ∷ b ∷ j ∷ []) = go (same w retry) (isNumber b && isNumber j) refl
   where
     go : (t u : Bool) → same w retry ≡ t → Says (pick (t && u) (Retry (valueOf b) (valueOf j)) Unreadable) (t && u) w (valueOf b ∷ valueOf j ∷ [])
@@ -65,7 +67,12 @@ unfolding orderOfLine readable pick
 line-says line = go (ltb longest (length line)) refl
   where
     go : (t : Bool) → ltb longest (length line) ≡ t
-        → Says (pick t Unreadable (orderOfWords (words line))) (leb (length line) longest && areOrder (words line)) (firstWord (words line)) (numbersBehind (words line))
+        →
+        Says
+        (pick t Unreadable (orderOfWords (words line)))
+        (leb (length line) longest && areOrder (words line))
+        (firstWord (words line))
+        (numbersBehind (words line))
     go true e = rw (lt-leb (length line) longest (ltb-true longest (length line) e)) (refl, refl)
     go false e = rw (le-leb (length line) longest (ltb-false longest (length line) e)) (words-say (words line))
 

@@ -5,16 +5,17 @@ use mathlib.Core.List.{List, [], _∷_}
 use mathlib.Core.Path.{_≡_, refl, _∙_}
 use native.Mathlib.Omega.{arith}
 use lib.Dec.{eqb, lit≤}
-use Rattle.laws.specs.Choice.{pick, and-both}
-use Rattle.lines.specs.Parts.{space, lineFeed, same, every, without, parts}
-use Rattle.lines.specs.PartLaws.{every-append}
+use Rattle.laws.specs.Choice.{pick}
+use Rattle.laws.proofs.laws.Choice.{and-both}
+use Rattle.lines.specs.Parts.{space, lineFeed, same, every, parts}
+use Rattle.lines.proofs.laws.Parts.{without}
+use Rattle.lines.proofs.laws.PartLaws.{every-append}
 use Rattle.lines.specs.Numeral.{decimal}
 use Rattle.lines.proofs.laws.NumeralLaws.{digits-without, decimal-digits, number-decimal, value-decimal}
 use Rattle.lines.specs.declared.Order.{Order}
 use Rattle.lines.specs.declared.Order.the-variants.{Districts, Job, Post, Stand, Retry, Cut, Carry, Unreadable}
 use Rattle.lines.specs.Orders.{districts, job, post, stand, retry, cut, carry, oneNumber, orderOfWords, orderOfLine, ordersOf}
-use Rattle.lines.proofs.laws.OrderLaws.{one-line, retry-line}
-use Rattle.lines.specs.OrderLaws.{orders-none, orders-lf}
+use Rattle.lines.proofs.laws.OrderLaws.{one-line, retry-line, orders-none, orders-lf}
 use Rattle.lines.specs.Spelling.{with, spelling, Small, script, AllSmall}
 
 -- an order's plain line is read as the order

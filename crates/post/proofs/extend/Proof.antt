@@ -3,7 +3,7 @@ use Prim.Native.Nat.{ℕ, _+_, _-_, _≤_, _<_}
 use Rattle.post.specs.Index.{Indexed}
 use Rattle.post.proofs.laws.Index.{indexed-more}
 use Rattle.house.specs.Limits.{mostPost}
-use Rattle.laws.specs.Choice.{and-left, and-right}
+use Rattle.laws.proofs.laws.Choice.{and-left, and-right}
 use borrow.Author.Tests.{ltb-true, leb-true}
 use lib.ListN.{length, length-set, getD}
 use lib.Dec.{ltb, leb}

@@ -8,7 +8,7 @@ use native.Mathlib.Omega.{arith}
 use lib.ListN.{length, take, getD, set, length-set}
 use lib.Seq.{getD-set-same, getD-set-other}
 use borrow.Author.Tests.{lt-ltb}
-use Rattle.laws.specs.Choice.{pick-true}
+use Rattle.laws.proofs.laws.Choice.{pick-true}
 use Rattle.house.specs.declared.Plan.{Plan}
 use Rattle.records.specs.Bytes.{stampsAt, rowsAt, lengthOf}
 use Rattle.post.specs.Posting.{lengthAt, nextStart, startOf}

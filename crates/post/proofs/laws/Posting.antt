@@ -10,8 +10,8 @@ use lib.Seq.{take-all, take-nil, drop-length}
 use lib.Dec.{ltb}
 use borrow.Author.Tests.{le-ltb, ltb-false}
 use borrow.Rule.Slice.PartMut.{midOf, putMid}
-use Rattle.laws.specs.Choice.{pick, pick-true, pick-false}
-use Rattle.laws.proofs.laws.Choice.{pick-when, look}
+use Rattle.laws.specs.Choice.{pick}
+use Rattle.laws.proofs.laws.Choice.{pick-true, pick-false, pick-when, look}
 use Rattle.laws.proofs.laws.Fold.{upto-step}
 use Rattle.laws.specs.Tray.{onto}
 use Rattle.laws.proofs.laws.Tray.{rest-of}
@@ -55,16 +55,23 @@ walk-stays P s used at zero h = refl
 walk-stays P s used at (suc k) h = ap (nextStart P s used) (walk-stays P s used at k h) ∙ pick-false (at + lengthAt P s at) at (le-ltb at used h)
 
 -- bytes written behind what is used
-pub put-behind : (s bs m : List ℕ) (n : ℕ) → n ≤ length s → m ≡ onto bs (midOf n (length s - n) s) → putMid n (length s - n) s m ≡ take n s ++ onto bs (drop n s)
+pub put-behind : (s bs m : List ℕ) (n : ℕ) → n ≤ length s → m ≡ onto bs (midOf n (length s - n) s)
+    → putMid n (length s - n) s m ≡ take n s ++ onto bs (drop n s)
 put-behind s bs m n h e =
-    rw (e, take-all (length s - n) (drop n s) (rw length-drop (omega arith)), drop-of-length-le (drop n s) {i = length s - n} (rw length-drop (omega arith)), append-nil)
+    rw (
+      e,
+      take-all (length s - n) (drop n s) (rw length-drop (omega arith)),
+      drop-of-length-le (drop n s) {i = length s - n} (rw length-drop (omega arith)),
+      append-nil,
+    )
 
 -- the part of a post that holds the record at a place, whichever the place
 pub part-from : (s : List ℕ) (at n from end : ℕ) → from ≡ pick (ltb at (length s)) at (length s) → end ≡ pick (ltb (at + n) (length s)) (at + n) (length s)
     → take (end - from) (drop from s) ≡ take n (drop at s)
 part-from s at n from end ef ee = go (look (ltb at (length s))) (look (ltb (at + n) (length s)))
   where
-    go : (ltb at (length s) ≡ true) ⊎ (ltb at (length s) ≡ false) → (ltb (at + n) (length s) ≡ true) ⊎ (ltb (at + n) (length s) ≡ false) → take (end - from) (drop from s) ≡ take n (drop at s)
+    go : (ltb at (length s) ≡ true) ⊎ (ltb at (length s) ≡ false) → (ltb (at + n) (length s) ≡ true) ⊎ (ltb (at + n) (length s) ≡ false)
+        → take (end - from) (drop from s) ≡ take n (drop at s)
     go (inl h) (inl k) =
         let f : from ≡ at = ef ∙ pick-true at (length s) h in
         let m : end - from ≡ n = rw (ee ∙ pick-true (at + n) (length s) k, f) (omega arith) in

@@ -1,6 +1,6 @@
 -- `post::next_start` meets its contract.
 use Rattle.post.specs.Posting.{nextStart, lengthAt}
-use Rattle.laws.specs.Choice.{pick-true, pick-false}
+use Rattle.laws.proofs.laws.Choice.{pick-true, pick-false}
 use borrow.Author.Tests.{lt-ltb, le-ltb}
 use native.Mathlib.Omega.{arith}
 use mathlib.Core.Path.{sym}

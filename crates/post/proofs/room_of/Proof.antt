@@ -1,6 +1,6 @@
 -- `post::room_of` meets its contract.
 use Rattle.post.specs.Posting.{roomOf}
-use Rattle.laws.specs.Choice.{pick-true, pick-false}
+use Rattle.laws.proofs.laws.Choice.{pick-true, pick-false}
 use borrow.Author.Tests.{lt-ltb, le-ltb}
 use native.Mathlib.Omega.{arith}
 use mathlib.Core.Path.{sym}

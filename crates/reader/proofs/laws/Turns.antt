@@ -3,7 +3,8 @@ use Prim.Native.Nat.{ℕ, _+_, _-_, _*_, _<_}
 use mathlib.Core.List.{List, _++_}
 use mathlib.Core.Path.{_≡_, _∙_}
 use lib.ListN.{length, take, drop, set, replicate}
-use Rattle.laws.specs.Codec.{Codec, decRow, read-step, row-read-length, fill-step}
+use Rattle.laws.specs.Codec.{Codec, decRow, read-step, row-read-length}
+use Rattle.laws.proofs.laws.Codec.{fill-step}
 use Rattle.laws.proofs.laws.Tray.{rest-of}
 
 pub read-turn : {A : Type 0} (C : Codec A) (m : ℕ) (d : A) (s : List ℕ) (i : ℕ) (out : List A) (e : A) → i < m

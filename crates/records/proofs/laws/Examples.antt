@@ -6,13 +6,15 @@ use lib.ListN.{replicate}
 use Rattle.laws.specs.Choice.{pick}
 use Rattle.laws.specs.Digits.{digit}
 use Rattle.laws.specs.Fold.{allBelow}
-use Rattle.house.specs.Pairs.{stamp, ballot, boxNo, stampLt, ballotLt, sameStamp, sameBallot, isNoStamp, isNoBallot, timeFits, realStamp, realBallot, stampOf, ballotOf}
+use Rattle.house.specs.Pairs.{stamp, ballot, boxNo, stampLt, ballotLt, sameStamp, sameBallot, isNoStamp, isNoBallot, timeFits, realStamp, realBallot, stampOf}
+use Rattle.house.specs.Pairs.{ballotOf}
 use Rattle.house.specs.Plan.{sizeOf, boxesOf, isBox, isOffice, isJob, homeOf, sameHome, maskOf, names, ballotIn, noneOrIn, stampNamed}
 use Rattle.house.specs.declared.Plan.{Plan}
 use Rattle.records.specs.Format.{known, entry, orPlan, ballotsIn, stampsIn, rowsIn, hasJob}
 use Rattle.records.specs.Fields.{ballots, stamps, rows}
 use Rattle.records.specs.Rec.{accept, newleader, carried}
-use Rattle.records.specs.Rules.{clockOf, bothStamps, startRow, openRow, doneRow, rowSound, rowsSound, noneProposed, ballotFor, ballotsFor, boxes, neighbours, others, rules, spare}
+use Rattle.records.specs.Rules.{clockOf, bothStamps, startRow, openRow, doneRow, rowSound, rowsSound, noneProposed, ballotFor, ballotsFor, boxes}
+use Rattle.records.specs.Rules.{neighbours, others, rules, spare}
 use Rattle.records.specs.Bytes.{headBytes, ballotBytes, stampBytes, rowBytes, encode, stampsAt, rowsAt, lengthOf, shaped}
 use Rattle.records.specs.Examples.{good, bad, shapeless}
 
@@ -21,11 +23,19 @@ abbrev pub twoDistricts : Plan
 twoDistricts = record { districts = 2; jobs = 2; masks = 3 ∷ 1 ∷ [] }
 
 pub good-obey : map (rules twoDistricts) good ≡ replicate 12 true
-unfolding rules clockOf bothStamps startRow openRow doneRow rowSound rowsSound noneProposed ballotFor ballotsFor boxes neighbours others allBelow pick digit stampLt ballotLt sameStamp sameBallot isNoStamp isNoBallot timeFits realStamp realBallot stampOf ballotOf sizeOf boxesOf isBox isOffice isJob homeOf sameHome maskOf names ballotIn noneOrIn stampNamed
+unfolding
+    rules clockOf bothStamps startRow openRow doneRow rowSound rowsSound noneProposed ballotFor ballotsFor boxes
+    neighbours others allBelow pick digit stampLt ballotLt sameStamp sameBallot isNoStamp isNoBallot timeFits realStamp
+    realBallot stampOf ballotOf sizeOf boxesOf isBox isOffice isJob homeOf sameHome maskOf names ballotIn noneOrIn
+    stampNamed
 good-obey = refl
 
 pub bad-break : map (rules twoDistricts) bad ≡ replicate 31 false
-unfolding rules clockOf bothStamps startRow openRow doneRow rowSound rowsSound noneProposed ballotFor ballotsFor boxes neighbours others allBelow pick digit stampLt ballotLt sameStamp sameBallot isNoStamp isNoBallot timeFits realStamp realBallot stampOf ballotOf sizeOf boxesOf isBox isOffice isJob homeOf sameHome maskOf names ballotIn noneOrIn stampNamed
+unfolding
+    rules clockOf bothStamps startRow openRow doneRow rowSound rowsSound noneProposed ballotFor ballotsFor boxes
+    neighbours others allBelow pick digit stampLt ballotLt sameStamp sameBallot isNoStamp isNoBallot timeFits realStamp
+    realBallot stampOf ballotOf sizeOf boxesOf isBox isOffice isJob homeOf sameHome maskOf names ballotIn noneOrIn
+    stampNamed
 bad-break = refl
 
 -- a NEWLEADER has no job

@@ -3,7 +3,8 @@ use mathlib.Core.Logic.{_≢_}
 use mathlib.Core.Path.{_≡_}
 use borrow.Author.Tests.{ne-eqb}
 use Rattle.laws.specs.Choice.{pick}
-use Rattle.records.specs.Rec.{multicast, accept, accept-ack, deliver, newleader, newleader-ack, new-state, newstate-ack, unknown, meaning, ballotNo, stampNo}
+use Rattle.records.specs.Rec.{multicast, accept, accept-ack, deliver, newleader, newleader-ack, new-state, newstate-ack, unknown, meaning, ballotNo}
+use Rattle.records.specs.Rec.{stampNo}
 use Rattle.records.specs.declared.Record.{Record}
 
 module _ (r : Record) where
@@ -27,7 +28,8 @@ module _ (r : Record) where
   unfolding meaning pick
   says-newleader e = rw e
 
-  pub says-newleader-ack : r .kind ≡ 6 → meaning r ≡ newleader-ack (r .from) (r .to) (record { ballot = ballotNo r 0; cballot = ballotNo r 1; clock = stampNo r 0; table = r .table })
+  pub says-newleader-ack : r .kind ≡ 6
+      → meaning r ≡ newleader-ack (r .from) (r .to) (record { ballot = ballotNo r 0; cballot = ballotNo r 1; clock = stampNo r 0; table = r .table })
   unfolding meaning pick
   says-newleader-ack e = rw e
 
@@ -43,4 +45,13 @@ module _ (r : Record) where
   pub says-nothing : r .kind ≢ 1 → r .kind ≢ 2 → r .kind ≢ 3 → r .kind ≢ 4 → r .kind ≢ 5 → r .kind ≢ 6 → r .kind ≢ 7 → r .kind ≢ 8 → meaning r ≡ unknown
   unfolding meaning pick
   says-nothing a b c d e f g h =
-      rw (ne-eqb (r .kind) 1 a, ne-eqb (r .kind) 2 b, ne-eqb (r .kind) 3 c, ne-eqb (r .kind) 4 d, ne-eqb (r .kind) 5 e, ne-eqb (r .kind) 6 f, ne-eqb (r .kind) 7 g, ne-eqb (r .kind) 8 h)
+      rw (
+        ne-eqb (r .kind) 1 a,
+        ne-eqb (r .kind) 2 b,
+        ne-eqb (r .kind) 3 c,
+        ne-eqb (r .kind) 4 d,
+        ne-eqb (r .kind) 5 e,
+        ne-eqb (r .kind) 6 f,
+        ne-eqb (r .kind) 7 g,
+        ne-eqb (r .kind) 8 h,
+      )

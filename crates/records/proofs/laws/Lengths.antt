@@ -2,7 +2,7 @@
 use Prim.Native.Nat.{ℕ, _+_, _*_, _≤_, _-_}
 use mathlib.Core.Bool.{true}
 use mathlib.Core.List.{List, _++_, map}
-use mathlib.Core.Path.{_≡_, sym, ap, _∙_}
+use mathlib.Core.Path.{_≡_, sym, _∙_}
 use native.Mathlib.Omega.{arith}
 use lib.ListN.{length, length-append, length-map, getD, drop, replicate, length-replicate}
 use Rattle.laws.specs.Codec.{decRow, row-read-length}
@@ -13,7 +13,7 @@ use Rattle.house.specs.Pairs.{noBallot, noStamp, noRow}
 use Rattle.records.specs.Format.{ballotsIn, stampsIn, rowsIn}
 use Rattle.records.specs.Fields.{ballots, stamps, rows}
 use Rattle.records.specs.Bytes.{headBytes, ballotBytes, stampBytes, rowBytes, encode, stampsAt, rowsAt, lengthOf, parse}
-use Rattle.records.proofs.laws.Table.{ballots-most, stamps-most, rows-most, mostRecord, length-most, deliver-length}
+use Rattle.records.proofs.laws.Table.{ballots-most, stamps-most, rows-most, mostRecord, length-most}
 use Rattle.records.specs.declared.Record.{Record}
 use Rattle.records.proofs.laws.Sections.{section-length}
 
@@ -74,10 +74,6 @@ module _ (P : Plan) (r : Record) (sound : planSound P ≡ true) (A : Arrays r) w
   pub encode-fits : length (encode P r) ≤ leastTray
   encode-fits = omega (arith, encode-most)
 
--- a DELIVER has 21 bytes
-pub deliver-bytes : (P : Plan) (r : Record) → planSound P ≡ true → Arrays r → r .kind ≡ 4 → length (encode P r) ≡ 21
-deliver-bytes P r s A e = encode-length P r s A ∙ ap (lengthOf P) e ∙ deliver-length P
-
 -- what is read has the arrays of the code
 pub parse-arrays : (P : Plan) (s : List ℕ) → planSound P ≡ true → Arrays (parse P s)
 unfolding parse
@@ -85,7 +81,13 @@ parse-arrays P s sound =
     let k = getD s 1 0 in
     let b = ballots-most P k sound in let n = stamps-most k in let t = rows-most P k sound in
     record {
-      four = length-append (decRow ballots (ballotsIn P k) (drop 6 s)) (replicate (mostDistricts - ballotsIn P k) noBallot) ∙ rw (row-read-length, length-replicate) (omega arith);
-      two = length-append (decRow stamps (stampsIn k) (drop (stampsAt P k + 1) s)) (replicate (2 - stampsIn k) noStamp) ∙ rw (row-read-length, length-replicate) (omega arith);
-      many = length-append (decRow rows (rowsIn P k) (drop (rowsAt P k + 1) s)) (replicate (mostJobs - rowsIn P k) noRow) ∙ rw (row-read-length, length-replicate) (omega arith);
+      four =
+          length-append (decRow ballots (ballotsIn P k) (drop 6 s)) (replicate (mostDistricts - ballotsIn P k) noBallot)
+          ∙ rw (row-read-length, length-replicate) (omega arith);
+      two =
+          length-append (decRow stamps (stampsIn k) (drop (stampsAt P k + 1) s)) (replicate (2 - stampsIn k) noStamp)
+          ∙ rw (row-read-length, length-replicate) (omega arith);
+      many =
+          length-append (decRow rows (rowsIn P k) (drop (rowsAt P k + 1) s)) (replicate (mostJobs - rowsIn P k) noRow)
+          ∙ rw (row-read-length, length-replicate) (omega arith);
     }

@@ -10,8 +10,8 @@ use native.Mathlib.Omega.{arith}
 use lib.ListN.{getD}
 use lib.Dec.{eqb, leb}
 use borrow.Author.Tests.{leb-true, eqb-false, ne-eqb, not-true}
-use Rattle.laws.specs.Choice.{pick, pick-true, pick-false, and-both, not-off}
-use Rattle.laws.proofs.laws.Choice.{look, never, both}
+use Rattle.laws.specs.Choice.{pick}
+use Rattle.laws.proofs.laws.Choice.{pick-true, pick-false, and-both, not-off, look, never, both}
 use Rattle.laws.specs.Fold.{allBelow}
 use Rattle.laws.proofs.laws.Fold.{all-says, all-is, from-says, from-is}
 use Rattle.house.specs.Limits.{mostDistricts, mostJobs, noJob}
@@ -22,9 +22,12 @@ use Rattle.house.specs.Plan.{isBox, isOffice, isJob, homeOf, names, ballotIn, n
 use Rattle.house.specs.declared.Plan.{Plan}
 use Rattle.house.proofs.laws.Orders.{no-ballot-says, no-ballot-is}
 use Rattle.house.proofs.laws.Says.{plan-says, same-home-says, same-home-is, no-district}
-use Rattle.records.specs.Rec.{Rec, Proposal, Handout, Ballotpaper, NewState, multicast, accept, accept-ack, deliver, newleader, newleader-ack, new-state, newstate-ack, unknown, carried, meaning}
-use Rattle.records.specs.Rules.{clockOf, bothStamps, boxes, neighbours, others, ballotFor, ballotsFor, rules, startRow, isNoRow, spareBallots, spareStamps, spareRows, spare, valid}
-use Rattle.records.proofs.laws.Rows.{RowsOk, NoneProposed, rows-say, table-whole, table-rows, table-spare, unproposed-say, unproposed-whole, unproposed-is}
+use Rattle.records.specs.Rec.{Rec, Proposal, Handout, Ballotpaper, NewState, multicast, accept, accept-ack, deliver, newleader, newleader-ack, new-state}
+use Rattle.records.specs.Rec.{newstate-ack, unknown, carried, meaning}
+use Rattle.records.specs.Rules.{clockOf, bothStamps, boxes, neighbours, others, ballotFor, ballotsFor, rules, startRow, isNoRow, spareBallots}
+use Rattle.records.specs.Rules.{spareStamps, spareRows, spare, valid}
+use Rattle.records.proofs.laws.Rows.{RowsOk, NoneProposed, rows-say, table-whole, table-rows, table-spare, unproposed-say, unproposed-whole}
+use Rattle.records.proofs.laws.Rows.{unproposed-is}
 use Rattle.records.specs.Format.{known, mostKind, entry, orPlan, ballotsIn, stampsIn, rowsIn, hasJob}
 use Rattle.records.proofs.laws.Rec.{meaning-carried}
 use Rattle.records.specs.declared.Record.{Record}
@@ -148,15 +151,21 @@ neighbours-say P from to h = let a = both h in let b = both (a .0) in record { s
 neighbours-are : (P : Plan) (from to : BoxNo) → Neighbours P from to → neighbours P from to ≡ true
 unfolding neighbours boxes
 neighbours-are P from to N =
-    and-both (isBox P from && isBox P to) (sameHome P from to) (and-both (isBox P from) (isBox P to) (N .sender) (N .addressee)) (same-home-is P from to (N .home))
+    and-both
+    (isBox P from && isBox P to)
+    (sameHome P from to)
+    (and-both (isBox P from) (isBox P to) (N .sender) (N .addressee))
+    (same-home-is P from to (N .home))
 
 others-say : (P : Plan) (from to : BoxNo) → others P from to ≡ true → Others P from to
 unfolding others
-others-say P from to h = let a = both h in record { near = neighbours-say P from to (a .0); apart = eqb-false (from .0) (to .0) (not-true (eqb (from .0) (to .0)) (a .1)) }
+others-say P from to h =
+    let a = both h in record { near = neighbours-say P from to (a .0); apart = eqb-false (from .0) (to .0) (not-true (eqb (from .0) (to .0)) (a .1)) }
 
 others-are : (P : Plan) (from to : BoxNo) → Others P from to → others P from to ≡ true
 unfolding others
-others-are P from to O = and-both (neighbours P from to) (not (eqb (from .0) (to .0))) (neighbours-are P from to (O .near)) (not-off (ne-eqb (from .0) (to .0) (O .apart)))
+others-are P from to O =
+    and-both (neighbours P from to) (not (eqb (from .0) (to .0))) (neighbours-are P from to (O .near)) (not-off (ne-eqb (from .0) (to .0) (O .apart)))
 
 ballots-say : (P : Plan) (j : ℕ) (bs : List Ballot) (n : ℕ) → ballotsFor P j bs n ≡ true → BallotsFor P j bs n
 unfolding ballotsFor ballotFor
@@ -164,7 +173,10 @@ ballots-say P j bs n h = record { place = λ d l. on d (all-says (ballotFor P j 
   where
     on : (d : ℕ) → ballotFor P j bs d ≡ true → (names P j (district d) ≡ true) ⊎ (names P j (district d) ≡ false) → BallotFor P j d (getD bs d noBallot)
     on d e (inl n) = for-named n (rw (pick-true (ballotIn P (district d) (getD bs d noBallot)) (isNoBallot (getD bs d noBallot)) n) at e)
-    on d e (inr n) = for-other n (no-ballot-says (getD bs d noBallot) (rw (pick-false (ballotIn P (district d) (getD bs d noBallot)) (isNoBallot (getD bs d noBallot)) n) at e))
+    on d e (inr n) =
+        for-other
+        n
+        (no-ballot-says (getD bs d noBallot) (rw (pick-false (ballotIn P (district d) (getD bs d noBallot)) (isNoBallot (getD bs d noBallot)) n) at e))
 
 vector-whole : (P : Plan) (j : ℕ) (bs : List Ballot) → planSound P ≡ true → BallotsFor P j bs (P .districts) → spareBallots bs (P .districts) ≡ true
     → Vector P j bs
@@ -281,7 +293,9 @@ told-whole P (newstate-ack from to b) s k o = o
 told-whole P unknown s k o = o
 
 obeys-spare : (P : Plan) (m : Rec) → planSound P ≡ true → Obeys P m → Spare P (carried m)
-unfolding carried hasJob entry ballotsIn orPlan stampsIn rowsIn pick spareStamps spareRows isNoRow startRow isNoBallot isNoStamp sameBallot sameStamp spareBallots allBelow
+unfolding
+    carried hasJob entry ballotsIn orPlan stampsIn rowsIn pick spareStamps spareRows isNoRow startRow isNoBallot
+    isNoStamp sameBallot sameStamp spareBallots allBelow
 obeys-spare P (multicast from to j) s o = record { job = refl; ballots = refl; stamps = refl; rows = refl }
 obeys-spare P (accept from to j y) s o = record { job = refl; ballots = refl; stamps = refl; rows = refl }
 obeys-spare P (accept-ack from to j bs) s o = record { job = refl; ballots = vector-spare P j bs s (o .vector); stamps = refl; rows = refl }
@@ -302,7 +316,9 @@ obeys-rules P (newleader from to b) s o = rw (neighbours-are P from to (o .near)
 obeys-rules P (newleader-ack from to y) s o =
     rw (neighbours-are P from to (o .near), o .its-ballot, o .lower, o .cballot-home, o .clock) (table-rows P (homeOf P from) (y .table) s (o .table))
 obeys-rules P (new-state from to y) s o =
-    rw (others-are P from to (o .other), o .own-ballot, o .clock, table-rows P (homeOf P from) (y .table) s (o .table)) (unproposed-is P (y .table) s (o .unproposed))
+    rw
+    (others-are P from to (o .other), o .own-ballot, o .clock, table-rows P (homeOf P from) (y .table) s (o .table))
+    (unproposed-is P (y .table) s (o .unproposed))
 obeys-rules P (newstate-ack from to b) s o = rw (others-are P from to (o .other), o .its-ballot)
 obeys-rules P unknown s o = absurd o
 

@@ -30,7 +30,8 @@ write-promised {P} {r} {before} e f =
     record { answer = answered-of (writeNo P r (length before)) (ap (λ (v : Written). v .answer) e); used = ap (λ (v : Written). v .used) e; tray = f }
 
 -- no second answer fits it, and no second tray
-pub one-writing : {P : Plan} {r : Record} {before : List ℕ} {v w : Written} {t u : List ℕ} → RecordWritten P r before v t → RecordWritten P r before w u → (v ≡ w) × (t ≡ u)
+pub one-writing : {P : Plan} {r : Record} {before : List ℕ} {v w : Written} {t u : List ℕ} → RecordWritten P r before v t → RecordWritten P r before w u
+    → (v ≡ w) × (t ≡ u)
 one-writing p q =
     let a = one-answer (p .answer) (q .answer) in let n = p .used ∙ sym (q .used) in
     (λ i. record { answer = a i; used = n i }, p .tray ∙ sym (q .tray))

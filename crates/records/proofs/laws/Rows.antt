@@ -10,8 +10,7 @@ use native.Mathlib.Omega.{arith}
 use lib.ListN.{getD, length, set}
 use lib.Dec.{eqb, leb}
 use borrow.Author.Tests.{eqb-true, eq-eqb, ne-eqb, not-true, leb-true, le-leb}
-use Rattle.laws.proofs.laws.Choice.{never, or-cases, or-left, or-right, both}
-use Rattle.laws.specs.Choice.{and-both, not-off}
+use Rattle.laws.proofs.laws.Choice.{never, or-cases, or-left, or-right, both, and-both, not-off}
 use Rattle.laws.proofs.laws.Fold.{all-says, all-is, from-says, from-is}
 use Rattle.laws.proofs.laws.Place.{at-each}
 use Rattle.house.specs.Limits.{mostJobs, mostTime}
@@ -61,7 +60,8 @@ row-eta r p l g = λ i. record { phase = p i; local = l i; global = g i }
 
 pub start-says : (r : Row) → startRow r ≡ true → r ≡ noRow
 unfolding startRow
-start-says r h = let a = both h in let b = both (a .1) in row-eta r (eqb-true (r .phase) 0 (a .0)) (no-stamp-says (r .local) (b .0)) (no-stamp-says (r .global) (b .1))
+start-says r h =
+    let a = both h in let b = both (a .1) in row-eta r (eqb-true (r .phase) 0 (a .0)) (no-stamp-says (r .local) (b .0)) (no-stamp-says (r .global) (b .1))
 
 start-is : startRow noRow ≡ true
 unfolding startRow isNoStamp sameStamp
@@ -137,7 +137,8 @@ row-begun (at-open a p l g) n = (a, l)
 row-begun {P} {d} {j} {r} (at-done a p b) n = (a, both-say P j d (r .local) (r .global) b .local)
 
 -- a committed row has both stamps
-pub row-done : {P : Plan} {d : District} {j : ℕ} {r : Row} → RowOk P d j r → r .phase ≡ 3 → (names P j d ≡ true) × (bothStamps P j d (r .local) (r .global) ≡ true)
+pub row-done : {P : Plan} {d : District} {j : ℕ} {r : Row} → RowOk P d j r → r .phase ≡ 3
+    → (names P j d ≡ true) × (bothStamps P j d (r .local) (r .global) ≡ true)
 row-done (at-start e) p = absurd (omega (arith, ap (λ (q : Row). q .phase) e))
 row-done (at-open a (inl q) l g) p = absurd (omega arith)
 row-done (at-open a (inr q) l g) p = absurd (omega arith)

@@ -7,7 +7,7 @@ use native.Mathlib.Omega.{arith}
 use lib.ListN.{length, getD}
 use lib.Dec.{leb, eqb}
 use borrow.Author.Tests.{leb-true, eqb-true, le-leb, eq-eqb}
-use Rattle.laws.specs.Choice.{and-left, and-right}
+use Rattle.laws.proofs.laws.Choice.{and-left, and-right}
 use Rattle.house.specs.declared.Plan.{Plan}
 use Rattle.records.specs.Format.{known, ballotsIn, stampsIn, rowsIn}
 use Rattle.records.specs.Bytes.{stampsAt, rowsAt, lengthOf, shaped}

@@ -53,10 +53,14 @@ module _ {A : Type 0} {d : A} {l : List A} where
   front-two : {k : ℕ} → Front d l 2 k → 2 ≤ k → l ≡ getD l 0 d ∷ getD l 1 d ∷ replicate (k - 2) d
   front-two {k} F h =
       let s = F .size in
-      front-split F h ∙ ap (λ (q : List A). q ++ replicate (k - 2) d) (take-suc l 1 d (omega arith) ∙ ap (λ (q : List A). q ++ (getD l 1 d ∷ [])) (take-suc l 0 d (omega arith)))
+      front-split F h
+      ∙ ap
+      (λ (q : List A). q ++ replicate (k - 2) d)
+      (take-suc l 1 d (omega arith) ∙ ap (λ (q : List A). q ++ (getD l 1 d ∷ [])) (take-suc l 0 d (omega arith)))
 
 -- the test that what stands behind a section is none
-spare-front : {A : Type 0} (d : A) (isNo : A → Bool) → ((a : A) → isNo a ≡ true → a ≡ d) → (l : List A) (n k : ℕ) → length l ≡ k → allBelow (λ i. ltb i n || isNo (getD l i d)) k ≡ true
+spare-front : {A : Type 0} (d : A) (isNo : A → Bool) → ((a : A) → isNo a ≡ true → a ≡ d) → (l : List A) (n k : ℕ) → length l ≡ k
+    → allBelow (λ i. ltb i n || isNo (getD l i d)) k ≡ true
     → Front d l n k
 spare-front d isNo says l n k e h =
     record { size = e; none = λ i m lt. says (getD l i d) (from-says (λ q. isNo (getD l q d)) n k h i m lt) }
@@ -99,13 +103,29 @@ same-struct P r (suc (suc (suc zero))) e S B l h =
 same-struct P r (suc (suc (suc (suc zero)))) e S B l h =
     rw e (same-fields r 4 refl (front-one (B .ballots) (omega arith)) (front-two (B .stamps) (omega arith)) (front-split (B .rows) (omega arith)))
 same-struct P r (suc (suc (suc (suc (suc zero))))) e S B l h =
-    rw e (same-fields r 5 (no-job r (ap hasJob e) (S .job)) (front-one (B .ballots) (omega arith)) (front-split (B .stamps) (omega arith)) (front-split (B .rows) (omega arith)))
+    rw
+    e
+    (same-fields
+    r
+    5
+    (no-job r (ap hasJob e) (S .job))
+    (front-one (B .ballots) (omega arith))
+    (front-split (B .stamps) (omega arith))
+    (front-split (B .rows) (omega arith)))
 same-struct P r (suc (suc (suc (suc (suc (suc zero)))))) e S B l h =
     rw e (same-fields r 6 (no-job r (ap hasJob e) (S .job)) (front-two (B .ballots) (omega arith)) (front-one (B .stamps) (omega arith)) refl)
 same-struct P r (suc (suc (suc (suc (suc (suc (suc zero))))))) e S B l h =
     rw e (same-fields r 7 (no-job r (ap hasJob e) (S .job)) (front-one (B .ballots) (omega arith)) (front-one (B .stamps) (omega arith)) refl)
 same-struct P r (suc (suc (suc (suc (suc (suc (suc (suc zero)))))))) e S B l h =
-    rw e (same-fields r 8 (no-job r (ap hasJob e) (S .job)) (front-one (B .ballots) (omega arith)) (front-split (B .stamps) (omega arith)) (front-split (B .rows) (omega arith)))
+    rw
+    e
+    (same-fields
+    r
+    8
+    (no-job r (ap hasJob e) (S .job))
+    (front-one (B .ballots) (omega arith))
+    (front-split (B .stamps) (omega arith))
+    (front-split (B .rows) (omega arith)))
 same-struct P r (suc (suc (suc (suc (suc (suc (suc (suc (suc k))))))))) e S B l h = absurd (omega arith)
 
 -- a valid struct is the struct of what it says

@@ -24,7 +24,8 @@ unfolding entry
 entry-beyond k i h = List·getD-eq-default format 0 {n = k * 4 + i} (omega arith)
 
 -- a test that holds for the kinds of the table, and for a row of zeros, holds for every kind
-pub table-rule : (t : ℕ → ℕ → ℕ → Bool) → t 0 0 0 ≡ true → allBelow (λ k. t (entry k 0) (entry k 1) (entry k 2)) 9 ≡ true → (k : ℕ) → t (entry k 0) (entry k 1) (entry k 2) ≡ true
+pub table-rule : (t : ℕ → ℕ → ℕ → Bool) → t 0 0 0 ≡ true → allBelow (λ k. t (entry k 0) (entry k 1) (entry k 2)) 9 ≡ true → (k : ℕ)
+    → t (entry k 0) (entry k 1) (entry k 2) ≡ true
 table-rule t z h k = go (look (ltb k 9))
   where
     go : (ltb k 9 ≡ true) ⊎ (ltb k 9 ≡ false) → t (entry k 0) (entry k 1) (entry k 2) ≡ true
@@ -74,12 +75,3 @@ length-most P k h =
     let r = or-plan-most (P .jobs) mostJobs (entry k 2) (plan-says P h .jobs-most) in
     let t = leb-true (longest (entry k 0) (entry k 1) (entry k 2)) mostRecord (table-rule (λ x y z. leb (longest x y z) mostRecord) refl refl k) in
     omega (arith, b, r, t)
-
--- a MULTICAST has 8 bytes, a DELIVER 21, a NEWLEADER 11 in any plan
-pub multicast-length : (P : Plan) → lengthOf P 1 ≡ 8
-unfolding lengthOf rowsAt stampsAt ballotsIn stampsIn rowsIn orPlan pick entry
-multicast-length P = refl
-
-pub deliver-length : (P : Plan) → lengthOf P 4 ≡ 21
-unfolding lengthOf rowsAt stampsAt ballotsIn stampsIn rowsIn orPlan pick entry
-deliver-length P = refl

@@ -7,7 +7,7 @@ use native.Mathlib.Omega.{arith}
 use lib.ListN.{length, getD}
 use lib.Dec.{ltb}
 use borrow.Author.Tests.{ltb-true}
-use Rattle.laws.specs.Choice.{and-left, and-right}
+use Rattle.laws.proofs.laws.Choice.{and-left, and-right}
 use Rattle.laws.proofs.laws.Place.{at-getD, getD-at-is}
 use Rattle.house.specs.Pairs.{boxNo}
 use Rattle.house.specs.Plan.{boxesOf, isJob, planSound}
@@ -51,7 +51,8 @@ whose-is P n s (Cut p) = refl
 whose-is P n s (Carry k) = refl
 
 -- the box at the place that was found stands there
-pub found-stands : (P : Plan) (fixed : Bool) (n : Night) (s : List ℕ) (o : Order) (count : ℕ) (r : Place) (index : List ℕ) → Found P fixed (n .used) o s count r index
+pub found-stands : (P : Plan) (fixed : Bool) (n : Night) (s : List ℕ) (o : Order) (count : ℕ) (r : Place) (index : List ℕ)
+    → Found P fixed (n .used) o s count r index
     → Stands P (n .used) (boxIn n (r .at)) s o n (r .at)
 found-stands P fixed n s o count r index F =
     record { used-is = refl; box-is = refl; asked = λ p h. F .asked p (sym (exists-is P n s o) ∙ h) ∙ sym (whose-is P n s o) }
@@ -76,7 +77,8 @@ under-both true true k m o q f = f refl refl
 under-both true false k m o q f = refl
 under-both false b k m o q f = refl
 
-pub alone-is : (P : Plan) (used : ℕ) (x : BoxState) (s : List ℕ) (o : Order) (n : Night) (at : ℕ) → Stands P used x s o n at → given P n s o ≡ alone P used x s o
+pub alone-is : (P : Plan) (used : ℕ) (x : BoxState) (s : List ℕ) (o : Order) (n : Night) (at : ℕ) → Stands P used x s o n at
+    → given P n s o ≡ alone P used x s o
 unfolding given
 alone-is P used x s o n at S =
     let u = S .used-is in
@@ -92,7 +94,8 @@ alone-is P used x s o n at S =
 pub starts-carry : (P : Plan) (s : List ℕ) (used k at : ℕ) → at ≡ startOf P s used k → Starts P s used (Carry k) at
 starts-carry P s used k at e m q = let h : k ≡ m = cc in e ∙ ap (startOf P s used) h
 
-pub found-as : {P : Plan} {fixed : Bool} {used : ℕ} {o p : Order} {s : List ℕ} {count : ℕ} {r : Place} {index : List ℕ} → o ≡ p → Found P fixed used p s count r index
+pub found-as : {P : Plan} {fixed : Bool} {used : ℕ} {o p : Order} {s : List ℕ} {count : ℕ} {r : Place} {index : List ℕ} → o ≡ p
+    → Found P fixed used p s count r index
     → Found P fixed used o s count r index
 found-as e F = rw e F
 
@@ -111,7 +114,8 @@ module _ (P : Plan) (r p : ℕ) (is : p < mostBoxes → r ≡ p) where
 
   -- an order that carries nothing
   module _ {fixed : Bool} {used : ℕ} {s : List ℕ} {count : ℕ} {index : List ℕ} (I : Indexed P s used index count) where
-    here-found : (o : Order) → r < mostBoxes → ((k : ℕ) → o ≡ Carry k → ⊥) → (planSound P ≡ true → exists P (here used) s o ≡ true → r ≡ whose P (here used) s o)
+    here-found : (o : Order) → r < mostBoxes → ((k : ℕ) → o ≡ Carry k → ⊥)
+        → (planSound P ≡ true → exists P (here used) s o ≡ true → r ≡ whose P (here used) s o)
         → Found P fixed used o s count (record { at = r; start = 0; count = count }) index
     here-found o l n w = record { at-low = l; asked = w; start-low = omega arith; starts = λ k q. absurd (n k q); indexed = I; stays = λ h. refl }
 
@@ -125,7 +129,8 @@ module _ (P : Plan) (r p : ℕ) (is : p < mostBoxes → r ≡ p) where
 
     pub retry-found : (j : ℕ) → r < mostBoxes → Found P fixed used (Retry p j) s count (record { at = r; start = 0; count = count }) index
     unfolding whose exists
-    retry-found j l = here-found (Retry p j) l (λ k q. let w : _≡_ {A = ℕ} 0 1 = cc in omega arith) (λ h e. in-night h (and-left (ltb p (boxesOf P)) (isJob P j) e))
+    retry-found j l =
+        here-found (Retry p j) l (λ k q. let w : _≡_ {A = ℕ} 0 1 = cc in omega arith) (λ h e. in-night h (and-left (ltb p (boxesOf P)) (isJob P j) e))
 
     pub cut-found : r < mostBoxes → Found P fixed used (Cut p) s count (record { at = r; start = 0; count = count }) index
     unfolding whose exists

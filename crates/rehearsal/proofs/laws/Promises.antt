@@ -19,7 +19,8 @@ use Rattle.rehearsal.specs.Promises.{NightFresh, OrderRehearsed}
 pub one-night : {n m : Night} → NightFresh n → NightFresh m → n ≡ m
 one-night p q = p ∙ sym q
 
-pub one-turn : {P : Plan} {n : Night} {before : List ℕ} {o : Order} {t u : Turn} {s v : List ℕ} → OrderRehearsed P n before o t s → OrderRehearsed P n before o u v
+pub one-turn : {P : Plan} {n : Night} {before : List ℕ} {o : Order} {t u : Turn} {s v : List ℕ} → OrderRehearsed P n before o t s
+    → OrderRehearsed P n before o u v
     → (t ≡ u) × (s ≡ v)
 one-turn p q =
     let a = one-answer (p .answer) (q .answer) in let r = p .records ∙ sym (q .records) in let m = p .night ∙ sym (q .night) in
@@ -47,5 +48,6 @@ order-rehearsed {P} {n} {s} {o} e f =
     }
 
 -- the promise says the turn
-pub turn-is : {P : Plan} {n : Night} {s : List ℕ} {o : Order} {t : Turn} {after : List ℕ} → OrderRehearsed P n s o t after → t ≡ turnOf P n (whose P n s o) (given P n s o)
+pub turn-is : {P : Plan} {n : Night} {s : List ℕ} {o : Order} {t : Turn} {after : List ℕ} → OrderRehearsed P n s o t after
+    → t ≡ turnOf P n (whose P n s o) (given P n s o)
 turn-is p = one-turn p (order-rehearsed refl refl) .0

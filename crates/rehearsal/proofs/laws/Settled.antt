@@ -9,8 +9,7 @@ use lib.ListN.{length, take, drop, set, take-append-drop, length-append, length-
 use lib.Dec.{leb, ltb, eqb}
 use lib.Seq.{take-at, length-take-le}
 use borrow.Author.Tests.{ltb-true, leb-true, eqb-true}
-use Rattle.laws.specs.Choice.{pick-true, pick-false}
-use Rattle.laws.proofs.laws.Choice.{pick-when, pick-both, look}
+use Rattle.laws.proofs.laws.Choice.{pick-true, pick-false, pick-when, pick-both, look}
 use Rattle.laws.specs.Tray.{onto}
 use Rattle.laws.proofs.laws.Tray.{onto-nil, onto-front}
 use Rattle.house.specs.Limits.{mostPost}
@@ -67,7 +66,8 @@ result-used : (P : Plan) (x : BoxState) (o : Out) → resultOf P x o .used ≡ l
 result-used P x (refused k) = rw (encode-none P)
 result-used P x (does y l d) = refl
 
-pub wrote : (P : Plan) (x : BoxState) (o : Out) (t l : List ℕ) (out : Outcome) → out ≡ resultOf P x o → l ≡ onto (encodeAll P (recordsOf o)) t → length l ≡ length t
+pub wrote : (P : Plan) (x : BoxState) (o : Out) (t l : List ℕ) (out : Outcome) → out ≡ resultOf P x o → l ≡ onto (encodeAll P (recordsOf o)) t
+    → length l ≡ length t
     → (out .used ≤ length l) × (take (out .used) l ≡ encodeAll P (recordsOf o))
 wrote P x o t l out e w k =
     let bs = encodeAll P (recordsOf o) in
@@ -86,7 +86,8 @@ done-records : (P : Plan) (x : BoxState) (o : Out) → wasDone o ≡ true → re
 done-records P x (refused k) e = let z : _≡_ {A = ℕ} 0 1 = cc in absurd (omega arith)
 done-records P x (does y l d) e = refl
 
-module _ {P : Plan} {used : ℕ} {x : BoxState} {s : List ℕ} {o : Order} {r : Record} (G : Goes P used x s o r) (out : Outcome) (is : out ≡ resultOf P x (stepOf P x o r)) where
+module _ {P : Plan} {used : ℕ} {x : BoxState} {s : List ℕ} {o : Order} {r : Record} (G : Goes P used x s o r) (out : Outcome)
+    (is : out ≡ resultOf P x (stepOf P x o r)) where
   abbrev sent : List Rec
   sent = recordsOf (stepOf P x o r)
 
@@ -120,7 +121,14 @@ module _ {P : Plan} {used : ℕ} {x : BoxState} {s : List ℕ} {o : Order} {r : 
     given-is = alone-is P used x s o n at T
 
     pub turned-does : v .fits ≡ true
-        → OrderRehearsed P n s o (record { night = record { boxes = set (n .boxes) at (out .state); used = v .used }; records = out .records; answer = Done }) after
+        →
+        OrderRehearsed
+        P
+        n
+        s
+        o
+        (record { night = record { boxes = set (n .boxes) at (out .state); used = v .used }; records = out .records; answer = Done })
+        after
     turned-does h =
         let f : given P n s o ≡ does (out .state) sent (out .delivery) = given-is ∙ alone-does (sym (S .fits-is) ∙ h) in
         let w : at ≡ whose P n s o = T .asked (G .plan-sound) (exists-is P n s o ∙ ap (λ (u : ℕ). exists P (here u) s o) (T .used-is) ∙ G .there) in

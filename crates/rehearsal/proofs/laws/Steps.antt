@@ -55,13 +55,15 @@ done-no e = let z : _≡_ {A = ℕ} 0 1 = cc in absurd (omega arith)
 no-is : {n m : ℕ} → _≡_ {A = Answer} (No n) (No m) → n ≡ m
 no-is e = cc
 
-pub judges-no : {P : Plan} {used : ℕ} {x : BoxState} {s : List ℕ} {o : Order} (k : ℕ) (r : Record) → alone P used x s o ≡ refused k → Judges P used x s o (No k) r
+pub judges-no : {P : Plan} {used : ℕ} {x : BoxState} {s : List ℕ} {o : Order} (k : ℕ) (r : Record) → alone P used x s o ≡ refused k
+    → Judges P used x s o (No k) r
 judges-no k r e = record { refuse = λ m q. e ∙ ap refused (no-is q); go = λ q. no-done q }
 
 pub judges-go : {P : Plan} {used : ℕ} {x : BoxState} {s : List ℕ} {o : Order} {r : Record} → Goes P used x s o r → Judges P used x s o Done r
 judges-go g = record { refuse = λ k q. done-no q; go = λ q. g }
 
-pub judges-as : {P : Plan} {used : ℕ} {x : BoxState} {s : List ℕ} {o p : Order} {a : Answer} {r : Record} → o ≡ p → Judges P used x s p a r → Judges P used x s o a r
+pub judges-as : {P : Plan} {used : ℕ} {x : BoxState} {s : List ℕ} {o p : Order} {a : Answer} {r : Record} → o ≡ p → Judges P used x s p a r
+    → Judges P used x s o a r
 judges-as e J = rw e J
 
 module _ (P : Plan) (used : ℕ) (x : BoxState) (s : List ℕ) (o : Order) where
@@ -89,16 +91,19 @@ every-stays P x (does y l d) (a-step K) h = sound-is P y (K .fine .sound)
 
 -- a step that keeps the box sound goes
 module _ {P : Plan} {used : ℕ} {x : BoxState} {s : List ℕ} {o : Order} {r : Record} where
-  pub goes-kept : planSound P ≡ true → exists P (here used) s o ≡ true → Can P x o r → wasDone (stepOf P x o r) ≡ true → actsOn P used x s o ≡ stepOf P x o r → Every (Keeps P x) (actsOn P used x s o)
+  pub goes-kept : planSound P ≡ true → exists P (here used) s o ≡ true → Can P x o r → wasDone (stepOf P x o r) ≡ true → actsOn P used x s o ≡ stepOf P x o r
+      → Every (Keeps P x) (actsOn P used x s o)
       → Goes P used x s o r
   goes-kept p h c d e K =
       let K' : Every (Keeps P x) (stepOf P x o r) = rw (← e) K in
-      record { plan-sound = p; there = h; can = c; done = d; fits = every-fits K'; is = acts-on P used x s o r p h e; stays = every-stays P x (stepOf P x o r) K' }
+      record
+      { plan-sound = p; there = h; can = c; done = d; fits = every-fits K'; is = acts-on P used x s o r p h e; stays = every-stays P x (stepOf P x o r) K' }
 
 -- ---- each order
 
 -- post: no box is asked
-pub goes-post : (P : Plan) (used : ℕ) (x : BoxState) (s : List ℕ) (j : ℕ) (r : Record) → planSound P ≡ true → exists P (here used) s (Post j) ≡ true → Sends P (posts P j) r
+pub goes-post : (P : Plan) (used : ℕ) (x : BoxState) (s : List ℕ) (j : ℕ) (r : Record) → planSound P ≡ true → exists P (here used) s (Post j) ≡ true
+    → Sends P (posts P j) r
     → Goes P used x s (Post j) r
 unfolding actsOn
 goes-post P used x s j r p h c =
@@ -161,13 +166,23 @@ module _ (P : Plan) (used : ℕ) (x : BoxState) (s : List ℕ) (h : sound P x �
     cut-keeps p = cut-off-every P x L
 
 -- a carry: what the box answered to the record's bytes
-pub carry-judges : (P : Plan) (used : ℕ) (x : BoxState) (s : List ℕ) (k : ℕ) (a : Answer) (r : Record) → planSound P ≡ true → exists P (here used) s (Carry k) ≡ true → Lengths x
+pub carry-judges : (P : Plan) (used : ℕ) (x : BoxState) (s : List ℕ) (k : ℕ) (a : Answer) (r : Record) → planSound P ≡ true
+    → exists P (here used) s (Carry k) ≡ true → Lengths x
     → Judging P x (bytesFrom P s (startOf P s used k)) a r → Judges P used x s (Carry k) a r
 unfolding actsOn
 carry-judges P used x s k a r p h L J =
     record {
       refuse = λ n q. acts-no P used x s (Carry k) n p h (J .refuse n q leastTray (omega arith));
-      go = λ q. let g = J .go q leastTray (omega arith) in goes-kept p h (g .1, J .done q) (judged-done P x (meaning r) (J .done q)) (g .0) (receives-every P x leastTray (bytesFrom P s (startOf P s used k)) L);
+      go =
+          λ q.
+          let g = J .go q leastTray (omega arith) in
+          goes-kept
+          p
+          h
+          (g .1, J .done q)
+          (judged-done P x (meaning r) (J .done q))
+          (g .0)
+          (receives-every P x leastTray (bytesFrom P s (startOf P s used k)) L);
     }
 
 -- the record that is carried: whether there is one, and its bytes
@@ -186,5 +201,6 @@ pub part-up : (at n m f e : ℕ) → f ≤ m → f ≤ at → e ≡ pick (ltb (a
 part-up at n m f e hl ha ee = rw ee (pick-when (λ k. f ≤ k) (ltb (at + n) m) (λ h. omega arith) (λ h. hl))
 
 -- what is sent fits into a tray of the least size
-pub sends-fit : {P : Plan} {l : List Rec} {r : Record} {room : ℕ} → Sends P l r → length (encodeAll P l) ≤ leastTray → room ≡ leastTray → length (sentBytes P r) ≤ room
+pub sends-fit : {P : Plan} {l : List Rec} {r : Record} {room : ℕ} → Sends P l r → length (encodeAll P l) ≤ leastTray → room ≡ leastTray
+    → length (sentBytes P r) ≤ room
 sends-fit S f e = rw (← S .bytes, e) f

@@ -22,7 +22,8 @@ use Rattle.rehearse.specs.declared.Next.the-variants.{More, End, ReadFai
 use Rattle.rehearse.specs.Turns.{Turn, given, nextOf, goesOn, readIn, Went, begun, on, OneTurn, Turned}
 
 -- the tests of the code make the decision
-pub next-tests : (got : ℤ) (written : Bool) → pick (ltZ got (pos 0)) ReadFailed (pick (leZ got (pos 0)) End (pick written More WriteFailed)) ≡ nextOf got written
+pub next-tests : (got : ℤ) (written : Bool)
+    → pick (ltZ got (pos 0)) ReadFailed (pick (leZ got (pos 0)) End (pick written More WriteFailed)) ≡ nextOf got written
 unfolding nextOf pick
 next-tests (negsuc k) written = refl
 next-tests (pos zero) written = refl
@@ -34,13 +35,15 @@ abbrev pub none-yet : (s : Session) (lent : List ℕ) → Turned s lent s More l
 none-yet s lent = record { turns = []; went = begun; session = refl; post = refl }
 
 read-on : (s : Session) (lent : List ℕ) (ts : List Turn) (t : Turn)
-    → behindText (readIn s lent ts .state .text) (chunkOf (sessionOf (readIn s lent ts)) (readIn s lent ts .state .post) (given t)) ≡ readIn s lent (ts ++ (t ∷ []))
+    → behindText (readIn s lent ts .state .text) (chunkOf (sessionOf (readIn s lent ts)) (readIn s lent ts .state .post) (given t))
+    ≡ readIn s lent (ts ++ (t ∷ []))
 read-on s lent ts t =
     sym (all-says (given t) (readIn s lent ts))
     ∙ sym (ap (foldl (allRead act) (within s lent)) (map-append given ts (t ∷ [])) ∙ foldl-append (allRead act) (within s lent) (map given ts) (given t ∷ []))
 
 -- after turns that say More, one turn more
-module _ {s cur r : Session} {lent post later : List ℕ} {before next : Next} (T : Turned s lent cur before post) (m : before ≡ More) (o : OneTurn cur post r next later) where
+module _ {s cur r : Session} {lent post later : List ℕ} {before next : Next} (T : Turned s lent cur before post) (m : before ≡ More)
+    (o : OneTurn cur post r next later) where
   fed : behindText (readIn s lent (T .turns) .state .text) (chunkOf cur post (given (o .turn))) ≡ readIn s lent (T .turns ++ (o .turn ∷ []))
   fed = rw (T .session, T .post) (read-on s lent (T .turns) (o .turn))
 

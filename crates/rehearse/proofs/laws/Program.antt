@@ -19,7 +19,8 @@ unfolding freshSession
 begun-fresh = record { line = refl; desk = refl; night = refl }
 
 -- the texts of all turns, and behind them the n bytes of the last words
-pub program-prints : {s r : Session} {lent later last before after : List ℕ} {next : Next} {n : ℕ} → Begun s → (run : Ran s lent r next later) → LastSaid r later before n last after
+pub program-prints : {s r : Session} {lent later last before after : List ℕ} {next : Next} {n : ℕ} → Begun s → (run : Ran s lent r next later)
+    → LastSaid r later before n last after
     → readIn s lent (run .some .turns) .state .text ++ take n after ≡ printedOn lent (joined (map given (run .some .turns)))
 unfolding wrote behindTurns
 program-prints {s = s} {r = r} {lent = lent} {later = later} {before = before} {after = after} {n = n} b run l =

@@ -4,7 +4,8 @@ use mathlib.Core.Bool.{Bool}
 use mathlib.Core.List.{List, _++_, map, append-assoc}
 use mathlib.Core.Path.{_≡_, sym, ap, _∙_}
 use lib.IntN.{ℤ}
-use Rattle.lines.specs.Feed.{Reading, inputEnd, joined, orders-chunks}
+use Rattle.lines.proofs.laws.Feed.{orders-chunks}
+use Rattle.lines.specs.Feed.{Reading, inputEnd, joined}
 use Rattle.session.specs.World.{World, act}
 use Rattle.session.specs.Session.{sessionOf, lastOf, freshSession}
 use Rattle.session.proofs.laws.SessionLaws.{last-says}

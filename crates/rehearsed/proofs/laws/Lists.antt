@@ -2,27 +2,22 @@
 use Prim.Native.Nat.{ℕ, zero, suc, _≤_, _<_}
 use mathlib.Core.List.{List, [], _∷_, _++_}
 use mathlib.Core.Logic.{⊎-elim}
-use mathlib.Core.Path.{_≡_, refl, sym, ap, subst, _∙_}
+use mathlib.Core.Path.{_≡_, refl, sym, subst, _∙_}
 use native.Mathlib.Nat.{eq-or-lt-of-le}
 use native.Mathlib.Omega.{arith}
 use lib.Dec.{ltb}
-use lib.ListN.{length, getD}
+use lib.ListN.{length}
 use borrow.Author.Tests.{ltb-true, ltb-false}
 use Rattle.laws.proofs.laws.Choice.{pick-when}
-use Rattle.laws.proofs.laws.Fold.{upto-same}
 use Rattle.laws.specs.Place.{At}
-use Rattle.laws.proofs.laws.Place.{at-left, at-right, at-lt, at-unique, getD-at-is}
-use Rattle.laws.specs.Tray.{allFor}
+use Rattle.laws.proofs.laws.Place.{at-left, at-right, at-lt, at-unique}
 use Rattle.house.specs.Limits.{mostJobs}
 use Rattle.boxes.specs.Box.{listedAt}
 use Rattle.boxes.specs.declared.BoxState.{BoxState}
 use Rattle.rehearsal.specs.Night.{boxIn}
 use Rattle.rehearsal.specs.declared.Night.{Night}
-use Rattle.report.specs.Texts.{item}
-use Rattle.report.specs.Report.{jobsText, listText, boxText}
-use Rattle.closing.specs.Endings.{firstJobs, jobsOf, shownOf}
+use Rattle.closing.specs.Endings.{firstJobs, shownOf}
 use Rattle.closing.proofs.laws.Laws.{first-jobs-length}
-use Rattle.closing.specs.Closing.{boxReport}
 use Rattle.in_order.specs.Words.{SameOrder}
 use Rattle.rehearsed.specs.ShownWords.{jobsShown, InOneOrder}
 
@@ -38,7 +33,8 @@ jobs-at x (suc n) i h =
     (eq-or-lt-of-le {n = i} {m = n} (omega arith))
   where
     last : (l : List ℕ) → length l ≡ n → i ≡ n → At (l ++ (listedAt x n .job ∷ [])) i (listedAt x i .job)
-    last l k e = rw (← e) (subst (λ (j : ℕ). At (l ++ (listedAt x i .job ∷ [])) j (listedAt x i .job)) (omega arith) (at-right l (listedAt x i .job ∷ []) 0 refl))
+    last l k e =
+        rw (← e) (subst (λ (j : ℕ). At (l ++ (listedAt x i .job ∷ [])) j (listedAt x i .job)) (omega arith) (at-right l (listedAt x i .job ∷ []) 0 refl))
 
 -- no more of them are shown than there are on the list, nor than there are places
 shown-most : (x : BoxState) → (shownOf x ≤ x .core .count) × (shownOf x ≤ mostJobs)
@@ -60,25 +56,6 @@ shown-list n p i m h =
     let l : i < shownOf x = rw (first-jobs-length x (shownOf x)) at (at-lt (firstJobs x (shownOf x)) i h) in
     let c = shown-most x .0 in
     record { inside = omega arith; job = at-unique (firstJobs x (shownOf x)) i (jobs-at x (shownOf x) i l) h }
-
--- ---- the report
-
--- the text of some jobs goes by those places alone
-jobs-text : (a b : List ℕ) (k : ℕ) → ((i : ℕ) → i < k → getD a i 0 ≡ getD b i 0) → jobsText a k ≡ jobsText b k
-unfolding jobsText allFor
-jobs-text a b k e = upto-same (λ l i. l ++ item (getD a i 0)) (λ l i. l ++ item (getD b i 0)) [] k (λ l i h. ap (λ (m : ℕ). l ++ item m) (e i h))
-
--- the line of a box in the report: `box P list`, and all of the jobs shown
-pub box-line : (n : Night) (p : ℕ) → boxReport n p ≡ boxText p (jobsShown n p) (length (jobsShown n p))
-unfolding boxReport boxText listText jobsShown
-box-line n p =
-    let x = boxIn n p in
-    let c = shown-most x .1 in
-    rw (
-      first-jobs-length x (shownOf x),
-      jobs-text (jobsOf x) (firstJobs x (shownOf x)) (shownOf x)
-          (λ i h. getD-at-is (jobsOf x) i 0 (jobs-at x mostJobs i (omega arith)) ∙ sym (getD-at-is (firstJobs x (shownOf x)) i 0 (jobs-at x (shownOf x) i h))),
-    )
 
 pub same-shown : (a b : Night) (p q : ℕ) → SameOrder (boxIn a p) (boxIn b q) → InOneOrder (jobsShown a p) (jobsShown b q)
 same-shown a b p q S =

@@ -5,8 +5,7 @@ use mathlib.Core.List.{List, [], _∷_, _++_, foldl, foldl-append}
 use mathlib.Core.Path.{_≡_, refl, ap, _∙_}
 use native.Mathlib.Omega.{arith}
 use lib.ListN.{length}
-use Rattle.laws.specs.Choice.{pick-false}
-use Rattle.laws.proofs.laws.Choice.{or-right, not-of}
+use Rattle.laws.proofs.laws.Choice.{pick-false, or-right, not-of}
 use Rattle.rehearsal.specs.declared.Order.{Order}
 use Rattle.lines.specs.declared.Order as typed
 use Rattle.session.specs.Desk.{emptyDesk, districtsHere, jobHere}
@@ -91,7 +90,8 @@ order-fixes d (typed.the-variants.Carry k) a e = record { plan = refl; fixed = r
 order-fixes d typed.the-variants.Unreadable a e = absurd (no-order e)
 
 -- so the plan before an order is that of the whole session
-pub plan-before : (first : List typed.Order) (o : typed.Order) (rest : List typed.Order) (a : Order) → asked o ≡ a ∷ [] → planOf (first ++ (o ∷ rest)) ≡ planOf first
+pub plan-before : (first : List typed.Order) (o : typed.Order) (rest : List typed.Order) (a : Order) → asked o ≡ a ∷ []
+    → planOf (first ++ (o ∷ rest)) ≡ planOf first
 plan-before first o rest a e =
     let s = order-fixes (deskOf first) o a e in
     ap (λ (d : Desk). d .plan) (foldl-append deskAfter emptyDesk first (o ∷ rest)) ∙ stays (deskAfter (deskOf first) o) (s .fixed) rest ∙ s .plan

@@ -70,7 +70,8 @@ module _ {P : Plan} {r : Stage} {w : World} (R : Reached P w) (S : Beside P r w)
 
   handed-here : (i : ℕ) (p : BoxNo) (m : ℕ) (b : Ballot) (s : Stamp) → WorldWords.HandedBefore P (w .post) i p m b s → HandedBefore P r i p m b s
   handed-here i p m b s h =
-      record { each = λ q l e. let g = h .each q l e in record { place = g .place; before = g .before; local = g .local; there = at-says (g .place) _ (g .there) } }
+      record
+      { each = λ q l e. let g = h .each q l e in record { place = g .place; before = g .before; local = g .local; there = at-says (g .place) _ (g .there) } }
 
 -- ---- DEMAND 3 holds of every rehearsal
 
@@ -102,7 +103,8 @@ module _ (P : Plan) (sound : planSound P ≡ true) (lent : List ℕ) where
         shows = shows-world (reached-at (f .first)) (beside-at (f .first)) m s (f .shows);
       }
 
-  final-then : (os later : List Order) (m : ℕ) (s : Stamp) → FinalStamp P lent (os ++ later) m s → WorldWords.FinalStamp P (orders os ++ later-orders os later) m s
+  final-then : (os later : List Order) (m : ℕ) (s : Stamp) → FinalStamp P lent (os ++ later) m s
+      → WorldWords.FinalStamp P (orders os ++ later-orders os later) m s
   final-then os later m s f = subst (λ (x : List Worlds.Order). WorldWords.FinalStamp P x m s) (orders-then os later) (final-world (os ++ later) m s f)
 
   box-at : (os : List Order) (p : ℕ) → p < boxesOf P → boxOn (afterwards P lent os) p ≡ boxAt (run P (new P) (orders os)) p

@@ -9,8 +9,8 @@ use lib.ListN.{length, take}
 use lib.Seq.{ext-getD, length-take-le, getD-take}
 use lib.Dec.{eqb}
 use borrow.Author.Tests.{eqb-true}
-use Rattle.laws.specs.Choice.{pick, pick-true, pick-false}
-use Rattle.laws.proofs.laws.Choice.{look, never}
+use Rattle.laws.specs.Choice.{pick}
+use Rattle.laws.proofs.laws.Choice.{pick-true, pick-false, look, never}
 use Rattle.house.specs.Pairs.{boxNo}
 use Rattle.house.specs.Plan.{boxesOf, planSound}
 use Rattle.house.proofs.laws.Says.{boxes-most}
@@ -69,7 +69,10 @@ module _ {P : Plan} {r : Stage} {w : World} (R : Reached P w) (S : Beside P r w)
     where
       go : Alike P (r .night) (r .post) w o → Same P (nightAfter P (r .night) (r .post) o) (postAfter P (r .night) (r .post) o) w
       go (both-refuse a) =
-          let k = a .number in let h = answers R (told o) k (a .world-refuses) .high in let q = eqb-true k 12 (ap isFull (sym (a .refuses)) ∙ e) in absurd (omega arith)
+          let k = a .number in
+          let h = answers R (told o) k (a .world-refuses) .high in
+          let q = eqb-true k 12 (ap isFull (sym (a .refuses)) ∙ e) in
+          absurd (omega arith)
       go (both-do a) = never e (ap isFull (a .does-it))
       go (full a) = subst₂ (λ (n : Night) (s : List ℕ). Same P n s w) (sym (a .night)) (sym (a .post)) S
 
@@ -121,7 +124,10 @@ played {P} {r} {w} R S (o ∷ os) = go (look (isFull (answered P r o))) (λ v T 
         record {
           beside = rw (pick-true (kept P (after P r o) os) (told o ∷ kept P (after P r o) os) e) (p .beside);
           answers-same =
-              rw (pick-true (kept P (after P r o) os) (told o ∷ kept P (after P r o) os) e, pick-true (heard P (after P r o) os) (answered P r o ∷ heard P (after P r o) os) e)
+              rw (
+                pick-true (kept P (after P r o) os) (told o ∷ kept P (after P r o) os) e,
+                pick-true (heard P (after P r o) os) (answered P r o ∷ heard P (after P r o) os) e,
+              )
               (p .answers-same);
           long = p .long ∙ after-long R S o;
         }
@@ -150,7 +156,8 @@ kept-then P r (o ∷ os) later = go (isFull (answered P r o)) (kept-then P (afte
     rest = kept P (rehearsed P (after P r o) os) later
 
     go : (t : Bool) → kept P (after P r o) (os ++ later) ≡ kept P (after P r o) os ++ rest
-        → pick t (kept P (after P r o) (os ++ later)) (told o ∷ kept P (after P r o) (os ++ later)) ≡ pick t (kept P (after P r o) os) (told o ∷ kept P (after P r o) os) ++ rest
+        → pick t (kept P (after P r o) (os ++ later)) (told o ∷ kept P (after P r o) (os ++ later))
+        ≡ pick t (kept P (after P r o) os) (told o ∷ kept P (after P r o) os) ++ rest
     go true e = e
     go false e = ap (λ (x : List Worlds.Order). told o ∷ x) e
 
@@ -188,11 +195,6 @@ module _ (P : Plan) (sound : planSound P ≡ true) (s : List ℕ) where
   -- its world is one of those that demand 3 speaks of
   pub rehearsal-reached : (os : List Order) → Reached P (worldOf os)
   rehearsal-reached os = reached P sound (kept P (beginning s) os)
-
-  -- what holds of every run holds of the world of every rehearsal
-  pub every-rehearsal : (Q : World → Type 0) → ((os : List Worlds.Order) → Q (run P (new P) os)) → (os : List Order)
-      → (w : World) × Q w × Same P (rehearsed P (beginning s) os .night) (rehearsed P (beginning s) os .post) w
-  every-rehearsal Q q os = (worldOf os, q (kept P (beginning s) os), rehearsal-beside os)
 
 pub said-same : {P : Plan} {r : Stage} {w : World} → Reached P w → Beside P r w → (k : ℕ) → k < length (w .post) → saidAt P r k ≡ recordAt w k
 said-same {P} {r} {w} R S k l =

@@ -9,8 +9,7 @@ use lib.ListN.{length, getD, take, drop, take-append-drop}
 use lib.Seq.{getD-take}
 use lib.Dec.{ltb}
 use borrow.Author.Tests.{ltb-true, lt-ltb}
-use Rattle.laws.proofs.laws.Choice.{look}
-use Rattle.laws.specs.Choice.{and-left}
+use Rattle.laws.proofs.laws.Choice.{look, and-left}
 use Rattle.laws.specs.Place.{In}
 use Rattle.house.specs.Limits.{leastTray}
 use Rattle.house.specs.Pairs.{boxNo}
@@ -108,7 +107,8 @@ module _ {P : Plan} {n : Night} {s : List ℕ} {w : World} (R : Reached P w) (S 
     where
       go : (ltb k (length (w .post)) ≡ true) ⊎ (ltb k (length (w .post)) ≡ false)
           → (ltb (startOf P s (n .used) k) (n .used) && ltb (toBox s (startOf P s (n .used) k)) (boxesOf P)) ≡ ltb k (length (w .post))
-      go (inl e) = let l = ltb-true k (length (w .post)) e in rw (inside-same k, e, to-same k l) (lt-ltb (addresseeOf (recordAt w k) .0) (boxesOf P) (record-box R k l))
+      go (inl e) =
+          let l = ltb-true k (length (w .post)) e in rw (inside-same k, e, to-same k l) (lt-ltb (addresseeOf (recordAt w k) .0) (boxesOf P) (record-box R k l))
       go (inr e) = rw (inside-same k, e)
 
   -- it is the same box's order

@@ -4,8 +4,8 @@ use mathlib.Core.Bool.{Bool, true, false, not}
 use mathlib.Core.List.{List, [], _∷_, _++_, foldl, append-assoc, append-nil}
 use mathlib.Core.Logic.{_⊎_, inl, inr}
 use mathlib.Core.Path.{_≡_, refl, sym, ap, subst, _∙_}
-use Rattle.laws.specs.Choice.{pick, and-right}
-use Rattle.laws.proofs.laws.Choice.{look, never, or-fails, not-of}
+use Rattle.laws.specs.Choice.{pick}
+use Rattle.laws.proofs.laws.Choice.{and-right, look, never, or-fails, not-of}
 use Rattle.house.specs.declared.Plan.{Plan}
 use Rattle.rehearsal.specs.declared.Order.{Order}
 use Rattle.rehearsal.specs.declared.Order as ask
@@ -49,17 +49,20 @@ module _ {lent : List ℕ} {done : List Order} {w : World} (K : Keeps lent done 
       }
 
   -- a plan line changes the plan only while no order was given
-  keeps-plan : (here : Bool) (next : Desk) → (here ≡ true → w .desk .fixed ≡ false) → Keeps lent (done ++ []) (saying (w .text) (drawn here (w .desk) next (w .night) (w .post)))
+  keeps-plan : (here : Bool) (next : Desk) → (here ≡ true → w .desk .fixed ≡ false)
+      → Keeps lent (done ++ []) (saying (w .text) (drawn here (w .desk) next (w .night) (w .post)))
   unfolding rehearsed pick
   keeps-plan true next f =
       let e = K .none (f refl) in
-      record { stage = K .stage ∙ ap (afterwards (w .desk .plan) lent) e ∙ sym (ap (afterwards (next .plan) lent) (append-nil done ∙ e)); none = λ _. append-nil done ∙ e }
+      record
+      { stage = K .stage ∙ ap (afterwards (w .desk .plan) lent) e ∙ sym (ap (afterwards (next .plan) lent) (append-nil done ∙ e)); none = λ _. append-nil done ∙ e }
   keeps-plan false next f = keeps-nil (record { stage = K .stage; none = K .none })
 
   -- any line; an unreadable one changes nothing
   keeps-act : (o : typed.Order) → Keeps lent (done ++ asked o) (act w o)
   unfolding act handled asked districtsHere jobHere
-  keeps-act (typed.the-variants.Districts g) = keeps-plan (districtsHere (w .desk)) (withDistricts (w .desk) g) (λ e. or-fails (w .desk .drawn) (w .desk .fixed) (off e) .1)
+  keeps-act (typed.the-variants.Districts g) =
+      keeps-plan (districtsHere (w .desk)) (withDistricts (w .desk) g) (λ e. or-fails (w .desk .drawn) (w .desk .fixed) (off e) .1)
   keeps-act (typed.the-variants.Job m) = keeps-plan (jobHere (w .desk)) (withJob (w .desk) m) (λ e. off (and-right (w .desk .drawn) (not (w .desk .fixed)) e))
   keeps-act (typed.the-variants.Post j) = keeps-order (ask.the-variants.Post j)
   keeps-act (typed.the-variants.Stand p) = keeps-order (ask.the-variants.Stand p)
@@ -68,7 +71,8 @@ module _ {lent : List ℕ} {done : List Order} {w : World} (K : Keeps lent done 
   keeps-act (typed.the-variants.Carry k) = keeps-order (ask.the-variants.Carry k)
   keeps-act typed.the-variants.Unreadable = keeps-nil (record { stage = K .stage; none = K .none })
 
-keeps-all : {lent : List ℕ} {done : List Order} {w : World} → Keeps lent done w → (lines : List typed.Order) → Keeps lent (done ++ askedBy lines) (foldl act w lines)
+keeps-all : {lent : List ℕ} {done : List Order} {w : World} → Keeps lent done w → (lines : List typed.Order)
+    → Keeps lent (done ++ askedBy lines) (foldl act w lines)
 unfolding askedBy
 keeps-all K [] = keeps-nil K
 keeps-all {lent} {done} {w} K (o ∷ lines) =

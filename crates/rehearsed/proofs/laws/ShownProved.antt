@@ -22,7 +22,8 @@ use Rattle.rehearsed.proofs.laws.Sessions.{asked-both, session}
 use Rattle.rehearsed.proofs.laws.Lists.{same-shown}
 
 -- the answer to the order that a line gives
-asked-same : (w : World) {a b : Order} → b ∷ [] ≡ a ∷ [] → w .text ++ answerShown (w .desk .plan) (stageOf w) b ≡ w .text ++ answerShown (w .desk .plan) (stageOf w) a
+asked-same : (w : World) {a b : Order} → b ∷ [] ≡ a ∷ []
+    → w .text ++ answerShown (w .desk .plan) (stageOf w) b ≡ w .text ++ answerShown (w .desk .plan) (stageOf w) a
 asked-same w {a} {b} e = let same : b ≡ a = cc in rw same
 
 -- an order prints its answer under the plan of that moment
@@ -39,7 +40,8 @@ text-act w typed.the-variants.Unreadable a e = absurd (no-order e)
 
 module _ (lent : List ℕ) (chunks : List (List ℕ)) where
   moments : (first rest : List typed.Order) → linesIn chunks ≡ first ++ rest → stageOf (played lent first) ≡ afterwards (planIn chunks) lent (askedBy first)
-  moments first rest e = subst (λ (l : List typed.Order). stageOf (played lent first) ≡ afterwards (planOf l) lent (askedBy first)) (sym e) (session lent first rest)
+  moments first rest e =
+      subst (λ (l : List typed.Order). stageOf (played lent first) ≡ afterwards (planOf l) lent (askedBy first)) (sym e) (session lent first rest)
 
   -- whatever is typed
   pub is-rehearsal : IsRehearsal lent chunks

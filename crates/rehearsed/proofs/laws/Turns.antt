@@ -65,7 +65,12 @@ written-front : (s bs : List ℕ) (u : ℕ) → u ≤ length s → take (u + len
 unfolding onto
 written-front s bs u h =
     ap (take (u + length bs)) (sym (append-assoc (take u s) bs (drop (length bs) (drop u s))))
-    ∙ take-at (take u s ++ bs) (drop (length bs) (drop u s)) (u + length bs) (length-append (take u s) bs ∙ ap (λ (k : ℕ). k + length bs) (length-take-le u s h))
+    ∙
+    take-at
+    (take u s ++ bs)
+    (drop (length bs) (drop u s))
+    (u + length bs)
+    (length-append (take u s) bs ∙ ap (λ (k : ℕ). k + length bs) (length-take-le u s h))
 
 -- ---- an outcome behind tests
 
@@ -75,12 +80,14 @@ guard-does true n o e = (refl, e)
 guard-does false n o e = (cc, cc)
 
 -- what is done exists
-pub done-exists : (P : Plan) (w : World) (o : Worlds.Order) {x : BoxState} {l : List Rec} {d : Delivery} → Worlds.given P w o ≡ does x l d → Worlds.exists P w o ≡ true
+pub done-exists : (P : Plan) (w : World) (o : Worlds.Order) {x : BoxState} {l : List Rec} {d : Delivery} → Worlds.given P w o ≡ does x l d
+    → Worlds.exists P w o ≡ true
 unfolding Worlds.given
 done-exists P w o e = guard-does _ _ _ (guard-does _ _ _ e .1) .0
 
 -- the test that the records fit
-fits-passes : (P : Plan) (n : Night) (s : List ℕ) (x : BoxState) (l : List Rec) (d : Delivery) → n .used + length (encodeAll P l) ≤ roomOf s → fitting P n s (does x l d) ≡ does x l d
+fits-passes : (P : Plan) (n : Night) (s : List ℕ) (x : BoxState) (l : List Rec) (d : Delivery) → n .used + length (encodeAll P l) ≤ roomOf s
+    → fitting P n s (does x l d) ≡ does x l d
 unfolding fitting guard
 fits-passes P n s x l d h =
     rw (or-right (eqb (length (encodeAll P l)) 0) (leb (n .used + length (encodeAll P l)) (roomOf s)) (le-leb (n .used + length (encodeAll P l)) (roomOf s) h))
@@ -189,7 +196,8 @@ module _ {P : Plan} {n : Night} {s : List ℕ} {w : World} (R : Reached P w) (S 
   pub alike : (o : Order) → Alike P n s w o
   alike o = go (Worlds.given P w (told o)) refl
     where
-      fit : (x : BoxState) (l : List Rec) (d : Delivery) → Worlds.given P w (told o) ≡ does x l d → Dec (n .used + length (encodeAll P l) ≤ roomOf s) → Alike P n s w o
+      fit : (x : BoxState) (l : List Rec) (d : Delivery) → Worlds.given P w (told o) ≡ does x l d → Dec (n .used + length (encodeAll P l) ≤ roomOf s)
+          → Alike P n s w o
       fit x l d e (yes h) =
           both-do
           (record {
@@ -219,7 +227,8 @@ module _ {P : Plan} {n : Night} {s : List ℕ} {w : World} (R : Reached P w) (S 
       go : (g : Out) → Worlds.given P w (told o) ≡ g → Alike P n s w o
       go (refused k) e =
           let r = refused-same R S o e in
-          both-refuse (record { number = k; world-refuses = e; refuses = r; night = night-stays P n s o r; post = post-stays P n s o r; world = world-stays P w (told o) e })
+          both-refuse
+          (record { number = k; world-refuses = e; refuses = r; night = night-stays P n s o r; post = post-stays P n s o r; world = world-stays P w (told o) e })
       go (does x l d) e = fit x l d e (decLe (n .used + length (encodeAll P l)) (roomOf s))
 
   refused-number : {a b : ℕ} → _≡_ {A = Out} (refused a) (refused b) → a ≡ b

@@ -11,8 +11,7 @@ use lib.ListN.{length, getD, take, drop, length-append}
 use lib.Seq.{take-suc, split-at, take-at, drop-at, take-all, getD-append-add}
 use lib.Dec.{ltb}
 use borrow.Author.Tests.{ltb-true, ltb-false, lt-ltb, le-ltb}
-use Rattle.laws.specs.Choice.{pick-true, pick-false}
-use Rattle.laws.proofs.laws.Choice.{look}
+use Rattle.laws.proofs.laws.Choice.{pick-true, pick-false, look}
 use Rattle.laws.specs.Place.{In}
 use Rattle.laws.proofs.laws.Place.{at-getD}
 use Rattle.house.specs.Plan.{planSound}

@@ -6,8 +6,8 @@ use mathlib.Core.Path.{_≡_, refl, sym}
 use native.Mathlib.Omega.{arith}
 use lib.ListN.{getD}
 use lib.Dec.{eqb}
-use Rattle.laws.specs.Choice.{pick, pick-true}
-use Rattle.laws.proofs.laws.Choice.{look}
+use Rattle.laws.specs.Choice.{pick}
+use Rattle.laws.proofs.laws.Choice.{pick-true, look}
 use Rattle.house.specs.Pairs.{boxNo, noBallot}
 use Rattle.house.specs.declared.Ballot.{Ballot}
 use Rattle.house.specs.declared.BoxNo.{BoxNo}
@@ -40,12 +40,14 @@ vector-at P x j (suc (suc (suc (suc d)))) h = absurd (omega arith)
 
 -- the box of a kept ballot, asked of the vector or of the box
 leader-meant : (P : Plan) (x : BoxState) (j : ℕ) (p : BoxNo) → homeOf P p .0 < 4
-    → names P j (homeOf P p) && eqb (keptBallot x j (homeOf P p) .owner .0) (p .0) ≡ names P j (homeOf P p) && eqb (getD (keptVector P x j) (homeOf P p .0) noBallot .owner .0) (p .0)
+    → names P j (homeOf P p) && eqb (keptBallot x j (homeOf P p) .owner .0) (p .0)
+    ≡ names P j (homeOf P p) && eqb (getD (keptVector P x j) (homeOf P p .0) noBallot .owner .0) (p .0)
 unfolding keptFor
 leader-meant P x j p h = rw (vector-at P x j (homeOf P p .0) h) (go (look (names P j (homeOf P p))))
   where
     go : (names P j (homeOf P p) ≡ true) ⊎ (names P j (homeOf P p) ≡ false)
-        → names P j (homeOf P p) && eqb (keptBallot x j (homeOf P p) .owner .0) (p .0) ≡ names P j (homeOf P p) && eqb (keptFor P x j (homeOf P p .0) .owner .0) (p .0)
+        → names P j (homeOf P p) && eqb (keptBallot x j (homeOf P p) .owner .0) (p .0)
+        ≡ names P j (homeOf P p) && eqb (keptFor P x j (homeOf P p .0) .owner .0) (p .0)
     go (inl e) = rw (pick-true (keptBallot x j (homeOf P p)) noBallot e)
     go (inr e) = rw e
 
@@ -62,17 +64,35 @@ module _ (P : Plan) (to : BoxNo) where
   pub delivers-sent : (x : BoxState) (j : ℕ) (y : Handout) → Sends P (toHome P x (λ p. deliver (ownOf x) p j y)) (carried (deliver (ownOf x) to j y))
   unfolding goesTo addressed carried pick
   delivers-sent x j y =
-      each-sends P (λ p. sameHome P p (ownOf x)) (λ p. deliver (ownOf x) p j y) (carried (deliver (ownOf x) to j y)) (λ p h. sym (and-true (sameHome P (boxNo p) (ownOf x)))) (λ p. refl)
+      each-sends
+      P
+      (λ p. sameHome P p (ownOf x))
+      (λ p. deliver (ownOf x) p j y)
+      (carried (deliver (ownOf x) to j y))
+      (λ p h. sym (and-true (sameHome P (boxNo p) (ownOf x))))
+      (λ p. refl)
 
   pub newleaders-sent : (x : BoxState) (b : Ballot) → Sends P (toHome P x (λ p. newleader (ownOf x) p b)) (carried (newleader (ownOf x) to b))
   unfolding goesTo addressed carried pick
   newleaders-sent x b =
-      each-sends P (λ p. sameHome P p (ownOf x)) (λ p. newleader (ownOf x) p b) (carried (newleader (ownOf x) to b)) (λ p h. sym (and-true (sameHome P (boxNo p) (ownOf x)))) (λ p. refl)
+      each-sends
+      P
+      (λ p. sameHome P p (ownOf x))
+      (λ p. newleader (ownOf x) p b)
+      (carried (newleader (ownOf x) to b))
+      (λ p h. sym (and-true (sameHome P (boxNo p) (ownOf x))))
+      (λ p. refl)
 
   pub new-states-sent : (x : BoxState) (y : NewState) → Sends P (toOthers P x (λ p. new-state (ownOf x) p y)) (carried (new-state (ownOf x) to y))
   unfolding goesTo addressed carried pick
   new-states-sent x y =
-      each-sends P (λ p. sameHome P p (ownOf x) && not (eqb (p .0) (ownOf x .0))) (λ p. new-state (ownOf x) p y) (carried (new-state (ownOf x) to y)) (λ p h. refl) (λ p. refl)
+      each-sends
+      P
+      (λ p. sameHome P p (ownOf x) && not (eqb (p .0) (ownOf x .0)))
+      (λ p. new-state (ownOf x) p y)
+      (carried (new-state (ownOf x) to y))
+      (λ p h. refl)
+      (λ p. refl)
 
   pub acks-sent : (x : BoxState) (j : ℕ) → planSound P ≡ true → Sends P (acks P x j) (carried (accept-ack (ownOf x) to j (keptVector P x j)))
   unfolding goesTo addressed carried pick acks

@@ -7,7 +7,8 @@ use mathlib.Core.Path.{_≡_, refl, sym, ap, _∙_}
 use native.Mathlib.Omega.{arith}
 use lib.Dec.{eqb}
 use lib.ListN.{getD, length, List·getD-eq-default}
-use Rattle.laws.specs.Choice.{pick, pick-true, pick-false}
+use Rattle.laws.specs.Choice.{pick}
+use Rattle.laws.proofs.laws.Choice.{pick-true, pick-false}
 use Rattle.laws.proofs.laws.Fold.{upto-step}
 use Rattle.house.specs.Limits.{noJob}
 use Rattle.house.specs.Pairs.{stampLt, noStamp, noRow}

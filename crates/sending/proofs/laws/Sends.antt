@@ -6,8 +6,8 @@ use mathlib.Core.Path.{_≡_, refl, sym, ap, _∙_}
 use native.Mathlib.Nat.{add-zero}
 use native.Mathlib.Omega.{arith}
 use lib.ListN.{length, length-append}
-use Rattle.laws.specs.Choice.{pick, pick-true, pick-false}
-use Rattle.laws.proofs.laws.Choice.{pick-ap}
+use Rattle.laws.specs.Choice.{pick}
+use Rattle.laws.proofs.laws.Choice.{pick-true, pick-false, pick-ap}
 use Rattle.laws.specs.Fold.{upto}
 use Rattle.laws.proofs.laws.Fold.{upto-step}
 use Rattle.laws.specs.Tray.{allFor}
@@ -74,7 +74,15 @@ module _ (P : Plan) (meant : BoxNo → Bool) (f : BoxNo → Rec) (r : Record)
   bytes-below zero h = encode-none P
   bytes-below (suc n) h =
       encode-append P (made n) (pick (meant (boxNo n)) (f (boxNo n) ∷ []) [])
-      ∙ rw (bytes-below n (omega arith), pick-ap (encodeAll P) (meant (boxNo n)) (f (boxNo n) ∷ []) [], encode-one P (f (boxNo n)), encode-none P, what (boxNo n), who n (omega arith))
+      ∙
+      rw (
+        bytes-below n (omega arith),
+        pick-ap (encodeAll P) (meant (boxNo n)) (f (boxNo n) ∷ []) [],
+        encode-one P (f (boxNo n)),
+        encode-none P,
+        what (boxNo n),
+        who n (omega arith),
+      )
 
   count-below : (n : ℕ) → n ≤ boxesOf P → length (made n) ≡ meantBelow P r n
   unfolding made meantBelow

@@ -7,8 +7,7 @@ use native.Mathlib.Omega.{arith}
 use lib.Dec.{eqb}
 use lib.ListN.{length, length-append, getD, set}
 use borrow.Author.Tests.{eq-eqb, ne-eqb}
-use Rattle.laws.specs.Choice.{pick-true, pick-false}
-use Rattle.laws.proofs.laws.Choice.{pick-both}
+use Rattle.laws.proofs.laws.Choice.{pick-true, pick-false, pick-both}
 use Rattle.laws.proofs.laws.Fold.{upto-step}
 use Rattle.laws.proofs.laws.Place.{Begins, begins-refl, begins-append, begins-trans}
 use Rattle.house.specs.Limits.{noJob}
@@ -53,7 +52,11 @@ turns-stay P x i (suc k) e =
 next-begins : (P : Plan) (h : Handing) → Begins (h .sent) (handNext P h .sent)
 unfolding handNext
 next-begins P h =
-    pick-both (λ (q : Handing). Begins (h .sent) (q .sent)) (eqb (nextReady P (h .box)) noJob) (begins-refl (h .sent)) (begins-append (h .sent) (delivers P (h .box) (nextReady P (h .box))))
+    pick-both
+    (λ (q : Handing). Begins (h .sent) (q .sent))
+    (eqb (nextReady P (h .box)) noJob)
+    (begins-refl (h .sent))
+    (begins-append (h .sent) (delivers P (h .box) (nextReady P (h .box))))
 
 turns-begin : (P : Plan) (x : BoxState) (i k : ℕ) → Begins (handTurns P x i .sent) (handTurns P x (i + k) .sent)
 turns-begin P x i zero = let e : i + 0 ≡ i = omega arith in rw e (begins-refl (handTurns P x i .sent))
@@ -63,9 +66,6 @@ turns-begin P x i (suc k) =
 
 begins-bytes : (P : Plan) {l k : List Rec} → Begins l k → length (encodeAll P l) ≤ length (encodeAll P k)
 begins-bytes P {l} b = rw (b .split, encode-append P l (b .rest), length-append) (omega arith)
-
-begins-length : {l k : List Rec} → Begins l k → length l ≤ length k
-begins-length {l} b = rw (b .split, length-append) (omega arith)
 
 pub turns-fit : (P : Plan) (x : BoxState) (i n : ℕ) → i ≤ n → length (encodeAll P (handTurns P x i .sent)) ≤ length (encodeAll P (handTurns P x n .sent))
 turns-fit P x i n h =

@@ -1,10 +1,8 @@
 -- Laws of what specs/AsTyped.antt defines.
 use Prim.Native.Nat.{ℕ}
-use mathlib.Core.List.{List, []}
-use mathlib.Core.Logic.{_⊎_, inl, inr}
+use mathlib.Core.List.{List}
 use mathlib.Core.Path.{_≡_, refl, sym, ap, _∙_}
 use Rattle.lines.specs.declared.Order as typed
-use Rattle.lines.specs.Orders.{districts, job}
 use Rattle.lines.specs.Reads.{orderWord, orderNumbers}
 use Rattle.lines.proofs.laws.Reads.{same-order}
 use Rattle.rehearsal.specs.declared.Night.{Night}
@@ -47,14 +45,3 @@ line-handled d n s (ask.the-variants.Carry k) = refl
 pub rehearsed-as-typed : (d : Desk) (n : Night) (s : List ℕ) (t : typed.Order) (o : ask.Order) → AsTyped t o → handled d n s t ≡ obeyed d n s o
 rehearsed-as-typed d n s t o a =
     ap (handled d n s) (same-order t (lineOf o) (sym (a .word) ∙ line-word o) (sym (a .numbers) ∙ line-numbers o)) ∙ line-handled d n s o
-
--- every line is a plan line, is unreadable, or is an order that is rehearsed as typed
-pub every-order : (t : typed.Order) → ((orderWord t ≡ districts) ⊎ (orderWord t ≡ job)) ⊎ ((orderWord t ≡ []) ⊎ ((o : ask.Order) × AsTyped t o))
-every-order (typed.the-variants.Districts g) = inl (inl refl)
-every-order (typed.the-variants.Job m) = inl (inr refl)
-every-order (typed.the-variants.Post j) = inr (inr (ask.the-variants.Post j, record { word = refl; numbers = refl }))
-every-order (typed.the-variants.Stand p) = inr (inr (ask.the-variants.Stand p, record { word = refl; numbers = refl }))
-every-order (typed.the-variants.Retry p j) = inr (inr (ask.the-variants.Retry p j, record { word = refl; numbers = refl }))
-every-order (typed.the-variants.Cut p) = inr (inr (ask.the-variants.Cut p, record { word = refl; numbers = refl }))
-every-order (typed.the-variants.Carry k) = inr (inr (ask.the-variants.Carry k, record { word = refl; numbers = refl }))
-every-order typed.the-variants.Unreadable = inr (inl refl)

@@ -5,7 +5,7 @@ use mathlib.Core.List.{List}
 use mathlib.Core.Path.{_≡_, refl, sym, ap, _∙_}
 use lib.Dec.{eqb}
 use lib.ListN.{length, getD, take}
-use Rattle.laws.specs.Choice.{pick-true, pick-false}
+use Rattle.laws.proofs.laws.Choice.{pick-true, pick-false}
 use Rattle.laws.proofs.laws.Fold.{over-step}
 use Rattle.lines.specs.Parts.{lineFeed}
 use Rattle.lines.specs.Held.{noLine, pushed, orderHeld}
@@ -27,13 +27,15 @@ pub byte-ends : (r : Reading World) → byteRead act r lineFeed ≡ lineEnd act 
 unfolding byteRead
 byte-ends r = pick-true _ _ refl
 
-line-acts : (whole : LineState) (w : World) (o : Order) → o ≡ orderHeld whole → lineEnd act (record { line = whole; state = w }) ≡ record { line = noLine; state = act w o }
+line-acts : (whole : LineState) (w : World) (o : Order) → o ≡ orderHeld whole
+    → lineEnd act (record { line = whole; state = w }) ≡ record { line = noLine; state = act w o }
 unfolding lineEnd
 line-acts whole w o e = rw e
 
 module _ (q : Reading World) (chunk : List ℕ) where
   -- a byte that is no LF
-  pub held-on : (i : ℕ) (l : LineState) (w : World) → i < length chunk → eqb (getD chunk i 0) lineFeed ≡ false → allRead act q (take i chunk) ≡ record { line = l; state = w }
+  pub held-on : (i : ℕ) (l : LineState) (w : World) → i < length chunk → eqb (getD chunk i 0) lineFeed ≡ false
+      → allRead act q (take i chunk) ≡ record { line = l; state = w }
       → allRead act q (take (i + 1) chunk) ≡ record { line = pushed l (getD chunk i 0); state = w }
   held-on i l w h nf e =
       sym (over-step (byteRead act) q chunk i h)

@@ -57,7 +57,8 @@ plain-as p q H = rw (← p, ← q) H
 
 module _ {d : Desk} {used : ℕ} {x : BoxState} {s : List ℕ} {o : typed.Order} {h : Heard} {before after : List ℕ} where
   -- a line that is no order
-  pub hears-plain : (e : Desk) (text : List ℕ) → ((n : Night) → handled d n s o ≡ record { desk = e; night = n; post = s; text = text }) → (d .fixed ≡ true → e ≡ d)
+  pub hears-plain : (e : Desk) (text : List ℕ) → ((n : Night) → handled d n s o ≡ record { desk = e; night = n; post = s; text = text })
+      → (d .fixed ≡ true → e ≡ d)
       → Plain e text h before after → Hears d used x s o h before after
   hears-plain e text f g H =
       record {
@@ -70,7 +71,8 @@ module _ {d : Desk} {used : ℕ} {x : BoxState} {s : List ℕ} {o : typed.Order}
       }
 
   -- an order
-  pub hears-order : (n-is : (n : Night) → handled d n s o ≡ obeyed d n s (askOf o)) → Obeys d used x s (askOf o) h before after → Hears d used x s o h before after
+  pub hears-order : (n-is : (n : Night) → handled d n s o ≡ obeyed d n s (askOf o)) → Obeys d used x s (askOf o) h before after
+      → Hears d used x s o h before after
   hears-order f O =
       record {
         most = O .most;

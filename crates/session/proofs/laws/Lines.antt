@@ -36,12 +36,14 @@ pub record Holds (r : Reading World) (line : LineState) (desk : Desk) (night : N
   pub night-is : r .state .night ≡ night
   pub post-is : r .state .post ≡ post
 
-pub fed-is : (r : Reading World) (line : LineState) (desk : Desk) (night : Night) (post : List ℕ) (n : ℕ) → Holds r line desk night post → n ≡ length (r .state .text)
+pub fed-is : (r : Reading World) (line : LineState) (desk : Desk) (night : Night) (post : List ℕ) (n : ℕ) → Holds r line desk night post
+    → n ≡ length (r .state .text)
     → _≡_ {A = Fed} (record { session = record { night = night; desk = desk; line = line }; used = n }) (fedOf r)
 fed-is r line desk night post n H e = rw (← H .line-is, ← H .desk-is, ← H .night-is, e)
 
 -- the line goes on, and nothing else happens
-pub holds-on : (r q : Reading World) (whole line : LineState) (desk : Desk) (night : Night) (post : List ℕ) → r ≡ record { line = whole; state = q .state } → Holds q line desk night post
+pub holds-on : (r q : Reading World) (whole line : LineState) (desk : Desk) (night : Night) (post : List ℕ) → r ≡ record { line = whole; state = q .state }
+    → Holds q line desk night post
     → Holds r whole desk night post
 holds-on r q whole line desk night post e H =
     record {
@@ -58,7 +60,8 @@ unfolding act
 acts-on r line desk night post o H = rw (H .desk-is, H .night-is, H .post-is)
 
 -- after a line that left a: the reading
-pub holds-after : (r q : Reading World) (a : After) (l : LineState) → r ≡ record { line = l; state = saying (q .state .text) a } → Holds r l (a .desk) (a .night) (a .post)
+pub holds-after : (r q : Reading World) (a : After) (l : LineState) → r ≡ record { line = l; state = saying (q .state .text) a }
+    → Holds r l (a .desk) (a .night) (a .post)
 holds-after r q a l e =
     record {
       line-is = ap (λ (z : Reading World). z .line) e;
@@ -77,7 +80,8 @@ same-or-not : (i j : ℕ) → (i ≡ j) ⊎ (i ≢ j)
 same-or-not i j = ⊎-elim (λ t. inl (eqb-true i j t)) (λ t. inr (eqb-false i j t)) (look (eqb i j))
 
 -- a line has been heard: d is the desk after it, k says whether its box is known to be sound
-pub sure-heard : {desk : Desk} {boxes : List BoxState} {used : ℕ} {post : List ℕ} {known : List Bool} {index later : List ℕ} {count : ℕ} {o : ask.Order} (r : Place) (d : Desk) (k : Bool) {x : BoxState}
+pub sure-heard : {desk : Desk} {boxes : List BoxState} {used : ℕ} {post : List ℕ} {known : List Bool} {index later : List ℕ} {count : ℕ} {o : ask.Order}
+    (r : Place) (d : Desk) (k : Bool) {x : BoxState}
     → r .at < length known → x ≡ boxIn (record { boxes = boxes; used = used }) (r .at) → Found (desk .plan) (desk .fixed) used o post count r later
     → (k ≡ true → (d .fixed ≡ true) × (sound (d .plan) x ≡ true)) → (desk .fixed ≡ true → d ≡ desk) → Sure desk boxes used post known index count
     → Sure d boxes used post (set known (r .at) k) later (r .count)
@@ -94,13 +98,15 @@ sure-heard {desk} {boxes} {used} {post} {known} {index} {later} {count} {o} r d 
     plan-new : desk .fixed ≡ false → Indexed (d .plan) post used later (r .count)
     plan-new t = indexed-first (desk .plan) (d .plan) post post used used later (r .count) (F .stays t ∙ S .loose t) (F .indexed)
 
-    asked : (i : ℕ) → i ≡ r .at → getD (set known (r .at) k) i false ≡ true → (d .fixed ≡ true) × (sound (d .plan) (boxIn (record { boxes = boxes; used = used }) i) ≡ true)
+    asked : (i : ℕ) → i ≡ r .at → getD (set known (r .at) k) i false ≡ true
+        → (d .fixed ≡ true) × (sound (d .plan) (boxIn (record { boxes = boxes; used = used }) i) ≡ true)
     asked i e q =
         let t : k ≡ true = sym (getD-set-same known (r .at) k false l) ∙ ap (λ (j : ℕ). getD (set known (r .at) k) j false) (sym e) ∙ q in
         let f = sure t in
         (f .0, rw (e, ← ex) (f .1))
 
-    other : (i : ℕ) → i ≢ r .at → getD (set known (r .at) k) i false ≡ true → (d .fixed ≡ true) × (sound (d .plan) (boxIn (record { boxes = boxes; used = used }) i) ≡ true)
+    other : (i : ℕ) → i ≢ r .at → getD (set known (r .at) k) i false ≡ true
+        → (d .fixed ≡ true) × (sound (d .plan) (boxIn (record { boxes = boxes; used = used }) i) ≡ true)
     other i e q =
         let t : getD known i false ≡ true = sym (getD-set-other known (r .at) i k false e) ∙ q in
         let f = S .box i t in
@@ -114,8 +120,12 @@ sure-grown {desk} {boxes} {used} {post} {known} {index} {count} u after m g S =
     record { indexed = indexed-grown (desk .plan) post after used u m g index count (S .indexed); loose = S .loose; box = S .box }
 
 -- a box has stepped, and bytes came behind what is used
-pub sure-stepped : {desk : Desk} {boxes : List BoxState} {used : ℕ} {post : List ℕ} {known : List Bool} {index : List ℕ} {count : ℕ} (at : ℕ) (y : BoxState) (u : ℕ) (after : List ℕ)
-    → at < length boxes → (sound (desk .plan) (boxIn (record { boxes = boxes; used = used }) at) ≡ true → sound (desk .plan) y ≡ true) → used ≤ u → take used after ≡ take used post
+pub sure-stepped : {desk : Desk} {boxes : List BoxState} {used : ℕ} {post : List ℕ} {known : List Bool} {index : List ℕ} {count : ℕ} (at : ℕ) (y : BoxState)
+    (u : ℕ) (after : List ℕ)
+    → at < length boxes
+    → (sound (desk .plan) (boxIn (record { boxes = boxes; used = used }) at) ≡ true → sound (desk .plan) y ≡ true)
+    → used ≤ u
+    → take used after ≡ take used post
     → Sure desk boxes used post known index count → Sure desk (set boxes at y) u after known index count
 unfolding boxIn
 sure-stepped {desk} {boxes} {used} {post} {known} {index} {count} at y u after l f m g S =
@@ -128,7 +138,10 @@ sure-stepped {desk} {boxes} {used} {post} {known} {index} {count} at y u after l
           λ j k e. f (ap (λ (m : ℕ). sound (desk .plan) (getD boxes m (fresh (boxNo 0)))) (sym e) ∙ k) in (
             b .0,
             ⊎-elim
-                (λ e. ap (λ (m : ℕ). sound (desk .plan) (getD (set boxes at y) m (fresh (boxNo 0)))) e ∙ ap (sound (desk .plan)) (getD-set-same boxes at y (fresh (boxNo 0)) l) ∙ here i (b .1) e)
+                (λ e.
+                ap (λ (m : ℕ). sound (desk .plan) (getD (set boxes at y) m (fresh (boxNo 0)))) e
+                ∙ ap (sound (desk .plan)) (getD-set-same boxes at y (fresh (boxNo 0)) l)
+                ∙ here i (b .1) e)
                 (λ e. ap (sound (desk .plan)) (getD-set-other boxes at i y (fresh (boxNo 0)) e) ∙ b .1)
                 (same-or-not i at),
           );

@@ -7,7 +7,7 @@ use native.Mathlib.Omega.{arith}
 use lib.ListN.{length, getD, set, take, length-set, length-drop}
 use lib.Seq.{take-length}
 use borrow.Rule.Slice.PartMut.{midOf, putMid}
-use Rattle.laws.specs.Choice.{pick-true, pick-false}
+use Rattle.laws.proofs.laws.Choice.{pick-true, pick-false}
 use Rattle.laws.specs.Tray.{onto}
 use Rattle.laws.proofs.laws.Tray.{then, rest-of}
 use Rattle.boxes.specs.Sound.{sound}
@@ -39,7 +39,8 @@ abbrev pub indexRoom : ℕ
 indexRoom = 8193
 
 -- at the beginning of a line
-pub record Reads (s : Session) (post₀ chunk t₀ : List ℕ) (from : ℕ) (post t : List ℕ) (boxes : List BoxState) (used : ℕ) (desk : Desk) (line : LineState) (known : List Bool)
+pub record Reads (s : Session) (post₀ chunk t₀ : List ℕ) (from : ℕ) (post t : List ℕ) (boxes : List BoxState) (used : ℕ) (desk : Desk) (line : LineState)
+    (known : List Bool)
     (index : List ℕ) (count text : ℕ) : Type 0 where
   pub low : from ≤ length chunk
   pub room : answerMost * length chunk ≤ length t₀
@@ -55,9 +56,16 @@ pub record Reads (s : Session) (post₀ chunk t₀ : List ℕ) (from : ℕ) (pos
   pub sure : Sure desk boxes used post known index count
 
 -- at the end of the chunk
-pub ends : {s : Session} {post₀ chunk t₀ : List ℕ} {from : ℕ} {post t : List ℕ} {boxes : List BoxState} {used : ℕ} {desk : Desk} {line : LineState} {known : List Bool}
+pub ends : {s : Session} {post₀ chunk t₀ : List ℕ} {from : ℕ} {post t : List ℕ} {boxes : List BoxState} {used : ℕ} {desk : Desk} {line : LineState}
+    {known : List Bool}
     {index : List ℕ} {count text : ℕ} → Reads s post₀ chunk t₀ from post t boxes used desk line known index count text → length chunk ≤ from
-    → Leaves (chunkOf s post₀ chunk) t₀ (record { session = record { night = record { boxes = boxes; used = used }; desk = desk; line = line }; used = text }) post t
+    →
+    Leaves
+    (chunkOf s post₀ chunk)
+    t₀
+    (record { session = record { night = record { boxes = boxes; used = used }; desk = desk; line = line }; used = text })
+    post
+    t
 ends {s} {post₀} {chunk} {t₀} {from} {post} {t} {boxes} {used} {desk} {line} {text = text} R h =
     let l = R .low in
     let e : from ≡ length chunk = omega (arith, l, h) in
@@ -69,7 +77,8 @@ ends {s} {post₀} {chunk} {t₀} {from} {post} {t} {boxes} {used} {desk} {line}
     }
 
 -- a turn of the loop
-module _ {s : Session} {post₀ chunk t₀ : List ℕ} {from : ℕ} {post t : List ℕ} {boxes : List BoxState} {used : ℕ} {desk : Desk} {line : LineState} {known : List Bool}
+module _ {s : Session} {post₀ chunk t₀ : List ℕ} {from : ℕ} {post t : List ℕ} {boxes : List BoxState} {used : ℕ} {desk : Desk} {line : LineState}
+    {known : List Bool}
     {index : List ℕ} {count text : ℕ} {a : Asked} {later : List ℕ} (R : Reads s post₀ chunk t₀ from post t boxes used desk line known index count text)
     (A : Asks line desk used chunk from post count index a later) where
   abbrev night : Night
@@ -124,20 +133,28 @@ module _ {s : Session} {post₀ chunk t₀ : List ℕ} {from : ℕ} {post t : Li
     box-is d = box-in night (a .at) d (rw (R .boxes-long) at-low)
 
     turn : then-run ≡ record { line = a .line; state = saying (run .state .text) (handled desk night post (a .typed)) }
-    turn = A .whole q .1 (within s post₀) (R .holds .line-is) ∙ ap (λ (w : World). record { line = a .line; state = w }) (acts-on run line desk night post (a .typed) (R .holds))
+    turn =
+        A .whole q .1 (within s post₀) (R .holds .line-is)
+        ∙ ap (λ (w : World). record { line = a .line; state = w }) (acts-on run line desk night post (a .typed) (R .holds))
 
     -- what it leaves, with its text behind the text so far
-    left : (b : After) → handled desk night post (a .typed) ≡ b → (t₁ : List ℕ) (text₁ : ℕ) → text₁ ≡ length (run .state .text ++ b .text) → t₁ ≡ onto (run .state .text ++ b .text) t₀
+    left : (b : After) → handled desk night post (a .typed) ≡ b → (t₁ : List ℕ) (text₁ : ℕ) → text₁ ≡ length (run .state .text ++ b .text)
+        → t₁ ≡ onto (run .state .text ++ b .text) t₀
         → Holds then-run (a .line) (b .desk) (b .night) (b .post) × (text₁ ≡ length (then-run .state .text)) × (t₁ ≡ onto (then-run .state .text) t₀)
     left b e t₁ text₁ u v =
-        let z : then-run ≡ record { line = a .line; state = saying (run .state .text) b } = turn ∙ ap (λ (w : After). record { line = a .line; state = saying (run .state .text) w }) e in (
+        let z : then-run ≡ record {
+          line =
+              a .line;
+          state = saying (run .state .text) b;
+        } = turn ∙ ap (λ (w : After). record { line = a .line; state = saying (run .state .text) w }) e in (
           holds-after then-run run b (a .line) z,
           u ∙ ap (λ (r : Reading World). length (r .state .text)) (sym z),
           v ∙ ap (λ (r : Reading World). onto (r .state .text) t₀) (sym z),
         )
 
     -- its box can be asked
-    pub can-turn : (d : BoxState) → (answerMost ≤ length (midOf text (length t - text) t)) × (getD known (a .at) false ≡ true → sound (desk .plan) (getD boxes (a .at) d) ≡ true)
+    pub can-turn : (d : BoxState)
+        → (answerMost ≤ length (midOf text (length t - text) t)) × (getD known (a .at) false ≡ true → sound (desk .plan) (getD boxes (a .at) d) ≡ true)
         × (a .start ≤ mostPlace) × Starts (desk .plan) post used (askOf (a .typed)) (a .start)
     can-turn d =
         let m = room-now in (
@@ -167,12 +184,20 @@ module _ {s : Session} {post₀ chunk t₀ : List ℕ} {from : ℕ} {post t : Li
       sure-now = sure-heard place (r .desk) (r .known) (rw (R .known-long) at-low) (box-is d) F (T .known) (T .fixed) (R .sure)
 
       -- whatever the boxes are then called
-      turns : (boxes₁ : List BoxState) → boxes₁ ≡ boxesAfter r (a .at) boxes → length boxes₁ ≡ mostBoxes → Sure (r .desk) boxes₁ (r .used) post₁ (set known (a .at) (r .known)) later (a .count)
+      turns : (boxes₁ : List BoxState) → boxes₁ ≡ boxesAfter r (a .at) boxes → length boxes₁ ≡ mostBoxes
+          → Sure (r .desk) boxes₁ (r .used) post₁ (set known (a .at) (r .known)) later (a .count)
           → Reads s post₀ chunk t₀ (a .next) post₁ t₁ boxes₁ (r .used) (r .desk) (a .line) (set known (a .at) (r .known)) later (a .count) (text + r .text)
       turns boxes₁ e l S =
           let D = T .does night (a .at) stands in
           let g = then (run .state .text) (D .0) t₀ t after text (r .text) (R .said) (R .printed) (D .2) (D .3) in
-          let L = left (record { desk = r .desk; night = record { boxes = boxes₁; used = r .used }; post = post₁; text = D .0 }) (rw e (D .1)) t₁ (text + r .text) (g .0) (g .1) in
+          let L =
+          left
+          (record { desk = r .desk; night = record { boxes = boxes₁; used = r .used }; post = post₁; text = D .0 })
+          (rw e (D .1))
+          t₁
+          (text + r .text)
+          (g .0)
+          (g .1) in
           record {
             low = A .low;
             room = R .room;
@@ -193,7 +218,23 @@ module _ {s : Session} {post₀ chunk t₀ : List ℕ} {from : ℕ} {post t : Li
 
       -- its box is a new one
       pub steps : r .new ≡ true
-          → Reads s post₀ chunk t₀ (a .next) post₁ t₁ (set boxes (a .at) (r .state)) (r .used) (r .desk) (a .line) (set known (a .at) (r .known)) later (a .count) (text + r .text)
+          →
+          Reads
+          s
+          post₀
+          chunk
+          t₀
+          (a .next)
+          post₁
+          t₁
+          (set boxes (a .at) (r .state))
+          (r .used)
+          (r .desk)
+          (a .line)
+          (set known (a .at) (r .known))
+          later
+          (a .count)
+          (text + r .text)
       steps f =
           turns
           (set boxes (a .at) (r .state))
@@ -202,5 +243,6 @@ module _ {s : Session} {post₀ chunk t₀ : List ℕ} {from : ℕ} {post t : Li
           (sure-stepped (a .at) (r .state) (r .used) post₁ (rw (R .boxes-long) at-low) (rw (← box-is d) (T .stays f)) (T .more) (T .front) sure-now)
 
       -- or all boxes are as they were
-      pub passes : r .new ≡ false → Reads s post₀ chunk t₀ (a .next) post₁ t₁ boxes (r .used) (r .desk) (a .line) (set known (a .at) (r .known)) later (a .count) (text + r .text)
+      pub passes : r .new ≡ false
+          → Reads s post₀ chunk t₀ (a .next) post₁ t₁ boxes (r .used) (r .desk) (a .line) (set known (a .at) (r .known)) later (a .count) (text + r .text)
       passes f = turns boxes (sym (pick-false (set boxes (a .at) (r .state)) boxes f)) (R .boxes-long) grown

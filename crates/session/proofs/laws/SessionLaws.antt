@@ -25,10 +25,16 @@ abbrev pub quiet : Reading World → Reading World
 quiet r = within (sessionOf r) (r .state .post)
 
 pub behind-none : (r : Reading World) → r ≡ behindText (r .state .text) (quiet r)
-behind-none r = ap (λ (x : List ℕ). record { line = r .line; state = record { desk = r .state .desk; night = r .state .night; post = r .state .post; text = x } }) (sym (append-nil (r .state .text)))
+behind-none r =
+    ap
+    (λ (x : List ℕ). record { line = r .line; state = record { desk = r .state .desk; night = r .state .night; post = r .state .post; text = x } })
+    (sym (append-nil (r .state .text)))
 
 pub behind-twice : (x y : List ℕ) (r : Reading World) → behindText (x ++ y) r ≡ behindText x (behindText y r)
-behind-twice x y r = ap (λ (z : List ℕ). record { line = r .line; state = record { desk = r .state .desk; night = r .state .night; post = r .state .post; text = z } }) (append-assoc x y (r .state .text))
+behind-twice x y r =
+    ap
+    (λ (z : List ℕ). record { line = r .line; state = record { desk = r .state .desk; night = r .state .night; post = r .state .post; text = z } })
+    (append-assoc x y (r .state .text))
 
 pub line-says : (r : Reading World) → lineEnd act r ≡ behindText (r .state .text) (lineEnd act (quiet r))
 unfolding lineEnd act

@@ -6,8 +6,8 @@ use mathlib.Core.Logic.{⊎-elim}
 use mathlib.Core.Path.{_≡_, refl, sym, ap, _∙_}
 use native.Mathlib.Omega.{arith}
 use lib.ListN.{length, set, take}
-use Rattle.laws.specs.Choice.{pick, pick-false}
-use Rattle.laws.proofs.laws.Choice.{never, look}
+use Rattle.laws.specs.Choice.{pick}
+use Rattle.laws.proofs.laws.Choice.{pick-false, never, look}
 use Rattle.laws.specs.Tray.{onto}
 use Rattle.house.specs.Limits.{leastTray}
 use Rattle.house.specs.Plan.{planSound}
@@ -90,18 +90,26 @@ module _ {desk : Desk} {used : ℕ} {x : BoxState} {post : List ℕ} {o : Order}
 
         -- its records fit, or the post is full
         stepped : (n : Night) (at : ℕ) → Stands (desk .plan) used x post (askOf o) n at → v .fits ≡ true
-            → handled desk n post o ≡ record { desk = fixedDesk desk; night = record { boxes = set (n .boxes) at (out .state); used = v .used }; post = later; text = turnText Done (out .records) }
+            → handled desk n post o
+            ≡ record {
+              desk = fixedDesk desk;
+              night = record { boxes = set (n .boxes) at (out .state); used = v .used };
+              post = later;
+              text = turnText Done (out .records);
+            }
         stepped n at T f = H .go go .4 n ∙ obeyed-is desk (turned-does (H .go go .0) out is n at T written later (wrote-now .1) settled (S .settles) f)
 
         full : (n : Night) (at : ℕ) → Stands (desk .plan) used x post (askOf o) n at → v .fits ≡ false
-            → handled desk n post o ≡ record { desk = fixedDesk desk; night = record { boxes = n .boxes; used = v .used }; post = later; text = turnText (No postFull) 0 }
+            → handled desk n post o
+            ≡ record { desk = fixedDesk desk; night = record { boxes = n .boxes; used = v .used }; post = later; text = turnText (No postFull) 0 }
         full n at T f =
             H .go go .4 n ∙ obeyed-is desk (turned-full (H .go go .0) out is n at T written later (wrote-now .1) settled (S .settles) f)
             ∙ ap
             (λ (k : ℕ). record { desk = fixedDesk desk; night = record { boxes = n .boxes; used = k }; post = later; text = turnText (No postFull) 0 })
             (T .used-is ∙ sym (S .settles .used-is ∙ pick-false (used + out .used) used f))
 
-        pub turns-gone : Turns desk used x post o (record { state = out .state; desk = h .desk; used = v .used; text = v .text; known = h .known; new = v .fits }) later before after
+        pub turns-gone : Turns desk used x post o
+            (record { state = out .state; desk = h .desk; used = v .used; text = v .text; known = h .known; new = v .fits }) later before after
         unfolding pick
         turns-gone =
             record {

@@ -10,10 +10,11 @@ use lib.ListN.{length, getD, replicate, length-map, length-append, List·getD-ap
 use lib.Dec.{leb, ltb}
 use lib.Pow.{pow-mono}
 use borrow.Author.Tests.{leb-true, leb-false, le-leb, lt-leb, le-ltb}
-use Rattle.laws.specs.Choice.{pick, pick-true, pick-false, and-left, and-right}
+use Rattle.laws.specs.Choice.{pick}
+use Rattle.laws.proofs.laws.Choice.{pick-true, pick-false, and-left, and-right}
 use Rattle.laws.specs.Fold.{allBelow}
 use Rattle.laws.proofs.laws.Fold.{upto-same}
-use Rattle.laws.specs.Codec.{fill-step}
+use Rattle.laws.proofs.laws.Codec.{fill-step}
 use Rattle.house.specs.Limits.{mostDistricts, mostJobs}
 use Rattle.house.specs.Plan.{maskSound, countsSound, masksSound, planSound}
 use Rattle.house.specs.declared.Plan.{Plan}
@@ -99,7 +100,8 @@ all-over : (more : List ℕ) (P : Plan) → P .jobs ≤ 65 → 64 < P .jobs + le
 all-over [] P h k = omega arith
 all-over (m ∷ more) P h k = go (leb 64 (P .jobs)) refl (all-over more (oneJob P m))
   where
-    go : (t : Bool) → leb 64 (P .jobs) ≡ t → (oneJob P m .jobs ≤ 65 → 64 < oneJob P m .jobs + length more → foldl oneJob (oneJob P m) more .jobs ≡ 65) → foldl oneJob (oneJob P m) more .jobs ≡ 65
+    go : (t : Bool) → leb 64 (P .jobs) ≡ t → (oneJob P m .jobs ≤ 65 → 64 < oneJob P m .jobs + length more → foldl oneJob (oneJob P m) more .jobs ≡ 65)
+        → foldl oneJob (oneJob P m) more .jobs ≡ 65
     go true e r = let c = one-over P m (leb-true 64 (P .jobs) e) in r (omega arith) (omega arith)
     go false e r = let b = leb-false 64 (P .jobs) e in let c = one-count P m b in r (omega arith) (omega arith)
 
@@ -129,7 +131,11 @@ masks-same g l h =
   where
     one : (j : ℕ) → j < length l → maskSound (capped g) (getD (map capped l ++ replicate (64 - length l) 0) j 0) ≡ maskSound g (getD l j 0)
     one j k =
-        rw (List·getD-append (map capped l) (replicate (64 - length l) 0) 0 j (rw (length-map l capped) k), at-mapped l j, capped-low g (lt-leb 255 g (omega arith)))
+        rw (
+          List·getD-append (map capped l) (replicate (64 - length l) 0) 0 j (rw (length-map l capped) k),
+          at-mapped l j,
+          capped-low g (lt-leb 255 g (omega arith)),
+        )
         (mask-same g (getD l j 0) h)
 
 -- the desk's plan is made of the jobs, one after the other

@@ -3,7 +3,8 @@ use Prim.Native.Nat.{ℕ}
 use mathlib.Core.List.{List, [], _∷_, _++_, foldl, append-assoc}
 use mathlib.Core.Path.{_≡_, sym, ap, _∙_}
 use Rattle.lines.specs.Orders.{ordersOf}
-use Rattle.lines.specs.Feed.{Reading, allRead, inputEnd, joined, orders-chunks}
+use Rattle.lines.proofs.laws.Feed.{orders-chunks}
+use Rattle.lines.specs.Feed.{Reading, allRead, inputEnd, joined}
 use Rattle.session.specs.World.{World, saying, act}
 use Rattle.session.specs.Session.{within, sessionOf, chunkOf, freshSession}
 use Rattle.session.proofs.laws.SessionLaws.{all-says, last-says}

@@ -9,8 +9,7 @@ use lib.ListN.{getD}
 use lib.Dec.{eqb}
 use lib.Pow.{pow-pos}
 use borrow.Author.Tests.{lt-ltb}
-use Rattle.laws.specs.Choice.{and-both}
-use Rattle.laws.proofs.laws.Choice.{or-right}
+use Rattle.laws.proofs.laws.Choice.{and-both, or-right}
 use Rattle.laws.specs.Digits.{part}
 use Rattle.laws.proofs.laws.Digits.{part-beyond}
 use Rattle.laws.specs.Fold.{allBelow}

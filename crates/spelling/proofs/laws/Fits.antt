@@ -7,7 +7,8 @@ use native.Mathlib.Omega.{arith}
 use lib.ListN.{getD}
 use lib.Dec.{leb}
 use borrow.Author.Tests.{leb-true}
-use Rattle.laws.specs.Choice.{pick, and-left, and-right}
+use Rattle.laws.specs.Choice.{pick}
+use Rattle.laws.proofs.laws.Choice.{and-left, and-right}
 use Rattle.house.specs.Pairs.{district, noRow, stampOf, ballotOf}
 use Rattle.house.proofs.laws.Orders.{stamp-of-says, ballot-of-says}
 use Rattle.house.specs.declared.Stamp.{Stamp}

@@ -1,21 +1,20 @@
 -- Reading what was written gives the record back; writing what was read gives the bytes back. For any kind at once.
 use Prim.Native.Nat.{ℕ, _+_, _-_, _*_, _≤_}
-use mathlib.Core.Bool.{Bool, true, false, _&&_, _||_}
+use mathlib.Core.Bool.{Bool, true, false, _&&_}
 use mathlib.Core.List.{List, [], _∷_, _++_, append-assoc, append-nil}
 use mathlib.Core.Path.{_≡_, refl, sym, ap, _∙_}
 use native.Mathlib.Omega.{arith}
 use lib.ListN.{length, take, drop, getD, replicate}
-use lib.Dec.{eqb}
 use lib.Seq.{take-all, take-add, take-at, drop-at, drop-drop, getD-drop}
 use Rattle.laws.specs.Codec.{encRow, decRow, row-read-length}
 use Rattle.laws.specs.Number.{Bytes}
-use Rattle.house.specs.Limits.{mostDistricts, mostJobs, noJob}
-use Rattle.house.specs.Pairs.{noStamp, noBallot, noRow, sameStamp, sameBallot, isNoStamp, isNoBallot}
+use Rattle.house.specs.Limits.{mostDistricts, mostJobs}
+use Rattle.house.specs.Pairs.{noStamp, noBallot, noRow}
 use Rattle.house.specs.Plan.{planSound}
 use Rattle.house.specs.declared.Plan.{Plan}
-use Rattle.records.specs.Format.{ballotsIn, stampsIn, rowsIn, hasJob}
+use Rattle.records.specs.Format.{ballotsIn, stampsIn, rowsIn}
 use Rattle.records.specs.Fields.{ballots, stamps, rows}
-use Rattle.records.specs.Rules.{startRow, isNoRow, spareBallots, spareStamps, spareRows, spare, valid}
+use Rattle.records.specs.Rules.{valid}
 use Rattle.records.specs.Bytes.{headBytes, ballotBytes, stampBytes, rowBytes, encode, stampsAt, rowsAt, lengthOf, shaped, parse}
 use Rattle.records.proofs.laws.Table.{ballots-most, stamps-most, rows-most}
 use Rattle.records.specs.declared.Record.{Record}
@@ -24,7 +23,6 @@ use Rattle.records.proofs.laws.Lengths.{Arrays, ballots-here, stamps-here, rows
 use Rattle.records.proofs.laws.Shapes.{Shape, shape-says, shape-is, ballots-inside, stamps-inside, rows-inside}
 use Rattle.records.proofs.laws.Obeys.{Valid, valid-parts}
 use Rattle.records.proofs.laws.Structs.{Behind, behind, front-split}
-use Rattle.spelling.proofs.laws.Filled.{spare-filled}
 use Rattle.spelling.proofs.laws.Fits.{FitAt, rules-fit}
 
 -- the byte at a place is the first of what lies from there on
@@ -43,21 +41,27 @@ module _ (P : Plan) (r : Record) (sound : planSound P ≡ true) (A : Arrays r) (
   fit = rules-fit P r (parts .is-known) (parts .obeys)
 
   -- each section is read back
-  ballots-back : (more : List ℕ) → decRow ballots (ballotsIn P (r .kind)) (encRow ballots (take (ballotsIn P (r .kind)) (r .ballots)) ++ more) ++ replicate (mostDistricts - ballotsIn P (r .kind)) noBallot ≡ r .ballots
+  ballots-back : (more : List ℕ)
+      → decRow ballots (ballotsIn P (r .kind)) (encRow ballots (take (ballotsIn P (r .kind)) (r .ballots)) ++ more) ++ replicate
+      (mostDistricts - ballotsIn P (r .kind)) noBallot ≡ r .ballots
   unfolding ballots
   ballots-back more =
       let n = ballotsIn P (r .kind) in let h = ballots-here P r sound A in
       rw (section-read ballots (r .ballots) n more h (fit-front ballots noBallot (r .ballots) n h (fit .ballots-fit)))
       (sym (front-split (spares .ballots) (ballots-most P (r .kind) sound)))
 
-  stamps-back : (more : List ℕ) → decRow stamps (stampsIn (r .kind)) (encRow stamps (take (stampsIn (r .kind)) (r .stamps)) ++ more) ++ replicate (2 - stampsIn (r .kind)) noStamp ≡ r .stamps
+  stamps-back : (more : List ℕ)
+      → decRow stamps (stampsIn (r .kind)) (encRow stamps (take (stampsIn (r .kind)) (r .stamps)) ++ more) ++ replicate (2 - stampsIn (r .kind)) noStamp ≡ r
+      .stamps
   unfolding stamps
   stamps-back more =
       let n = stampsIn (r .kind) in let h = stamps-here P r sound A in
       rw (section-read stamps (r .stamps) n more h (fit-front stamps noStamp (r .stamps) n h (fit .stamps-fit)))
       (sym (front-split (spares .stamps) (stamps-most (r .kind))))
 
-  rows-back : (more : List ℕ) → decRow rows (rowsIn P (r .kind)) (encRow rows (take (rowsIn P (r .kind)) (r .table)) ++ more) ++ replicate (mostJobs - rowsIn P (r .kind)) noRow ≡ r .table
+  rows-back : (more : List ℕ)
+      → decRow rows (rowsIn P (r .kind)) (encRow rows (take (rowsIn P (r .kind)) (r .table)) ++ more) ++ replicate (mostJobs - rowsIn P (r .kind)) noRow ≡ r
+      .table
   unfolding rows
   rows-back more =
       let n = rowsIn P (r .kind) in let h = rows-here P r sound A in
@@ -162,18 +166,6 @@ first-five (a ∷ b ∷ c ∷ d ∷ e ∷ s) h = refl
 -- two fronts are one
 fronts : (s : List ℕ) (n m t : ℕ) → n + m ≡ t → take n s ++ take m (drop n s) ≡ take t s
 fronts s n m t e = sym (take-add n m s) ∙ ap (λ (k : ℕ). take k s) e
-
--- what is read has nothing behind its sections: only the job byte of a kind without a job can be wrong there
-pub parse-spare : (P : Plan) (s : List ℕ) → spare P (parse P s) ≡ hasJob (getD s 1 0) || eqb (getD s 4 0) noJob
-unfolding spare spareBallots spareStamps spareRows parse isNoRow startRow isNoStamp isNoBallot sameStamp sameBallot
-parse-spare P s =
-    let k = getD s 1 0 in
-    rw (
-      spare-filled noBallot isNoBallot refl (decRow ballots (ballotsIn P k) (drop 6 s)) mostDistricts (ballotsIn P k) (row-read-length ballots (ballotsIn P k) (drop 6 s)),
-      spare-filled noStamp isNoStamp refl (decRow stamps (stampsIn k) (drop (stampsAt P k + 1) s)) 2 (stampsIn k) (row-read-length stamps (stampsIn k) (drop (stampsAt P k + 1) s)),
-      spare-filled noRow isNoRow refl (decRow rows (rowsIn P k) (drop (rowsAt P k + 1) s)) mostJobs (rowsIn P k) (row-read-length rows (rowsIn P k) (drop (rowsAt P k + 1) s)),
-    )
-    (and-true (hasJob k || eqb (getD s 4 0) noJob))
 
 -- where the sections begin
 at-stamps-place : (P : Plan) (k : ℕ) → 5 + (1 + ballotsIn P k * 3) ≡ stampsAt P k

@@ -10,8 +10,7 @@ use native.Mathlib.Omega.{arith}
 use lib.ListN.{length, getD, set, length-set}
 use lib.Seq.{getD-set-same, getD-set-other}
 use borrow.Author.Tests.{lt-ltb}
-use Rattle.laws.specs.Choice.{pick-true}
-use Rattle.laws.proofs.laws.Choice.{never}
+use Rattle.laws.proofs.laws.Choice.{pick-true, never}
 use Rattle.laws.specs.Digits.{part, withDigit}
 use Rattle.laws.proofs.laws.Place.{at-each}
 use Rattle.house.specs.Limits.{mostDistricts, mostJobs, mostTime}
@@ -215,11 +214,13 @@ module _ {P : Plan} {x : BoxState} (F : Fine P x) where
       at : ℕ
       at = j * mostDistricts + d
 
-      other : (k e : ℕ) → k * mostDistricts + e ≢ at → KeptOk P k (district e) (getD bs (k * mostDistricts + e) noBallot) (getD ss (k * mostDistricts + e) noStamp)
+      other : (k e : ℕ) → k * mostDistricts + e ≢ at
+          → KeptOk P k (district e) (getD bs (k * mostDistricts + e) noBallot) (getD ss (k * mostDistricts + e) noStamp)
           → KeptOk P k (district e) (getD (set bs at b) (k * mostDistricts + e) noBallot) (getD (set ss at s) (k * mostDistricts + e) noStamp)
       other k e n O = rw (getD-set-other bs at (k * mostDistricts + e) b noBallot n, getD-set-other ss at (k * mostDistricts + e) s noStamp n) O
 
-      go : (k e : ℕ) → e < mostDistricts → KeptOk P k (district e) (getD bs (k * mostDistricts + e) noBallot) (getD ss (k * mostDistricts + e) noStamp) → Dec (k ≡ j) → Dec (e ≡ d)
+      go : (k e : ℕ) → e < mostDistricts → KeptOk P k (district e) (getD bs (k * mostDistricts + e) noBallot) (getD ss (k * mostDistricts + e) noStamp)
+          → Dec (k ≡ j) → Dec (e ≡ d)
           → KeptOk P k (district e) (getD (set bs at b) (k * mostDistricts + e) noBallot) (getD (set ss at s) (k * mostDistricts + e) noStamp)
       go k e le O (yes p) (yes q) =
           let nb = F .lengths .kept-ballots in let ns = F .lengths .kept-stamps in
@@ -233,8 +234,15 @@ module _ {P : Plan} {x : BoxState} (F : Fine P x) where
   put-kept j d b s m hj hd K M =
       let w = x .volatile in
       let L = F .lengths in
-      put-volatile (set (w .«kept_ballots») (keptAt j (district d)) b) (set (w .«kept_stamps») (keptAt j (district d)) s) (set (w .marks) j m) (w .vote) (kepts-set j d b s hj hd K)
-      (length-set (w .«kept_ballots») (keptAt j (district d)) b ∙ L .kept-ballots) (length-set (w .«kept_stamps») (keptAt j (district d)) s ∙ L .kept-stamps) (marks-set j m hj M)
+      put-volatile
+      (set (w .«kept_ballots») (keptAt j (district d)) b)
+      (set (w .«kept_stamps») (keptAt j (district d)) s)
+      (set (w .marks) j m)
+      (w .vote)
+      (kepts-set j d b s hj hd K)
+      (length-set (w .«kept_ballots») (keptAt j (district d)) b ∙ L .kept-ballots)
+      (length-set (w .«kept_stamps») (keptAt j (district d)) s ∙ L .kept-stamps)
+      (marks-set j m hj M)
       (length-set (w .marks) j m ∙ L .marks) (F .sound .vote) (L .vote-table)
 
   -- the marks of a job
@@ -242,7 +250,15 @@ module _ {P : Plan} {x : BoxState} (F : Fine P x) where
   put-marks j m hj M =
       let w = x .volatile in
       let L = F .lengths in
-      put-volatile (w .«kept_ballots») (w .«kept_stamps») (set (w .marks) j m) (w .vote) (F .sound .kept) (L .kept-ballots) (L .kept-stamps) (marks-set j m hj M)
+      put-volatile
+      (w .«kept_ballots»)
+      (w .«kept_stamps»)
+      (set (w .marks) j m)
+      (w .vote)
+      (F .sound .kept)
+      (L .kept-ballots)
+      (L .kept-stamps)
+      (marks-set j m hj M)
       (length-set (w .marks) j m ∙ L .marks) (F .sound .vote) (L .vote-table)
 
   -- the vote kept
@@ -255,13 +271,17 @@ module _ {P : Plan} {x : BoxState} (F : Fine P x) where
 -- ---- one box more marked
 
 -- a box of a named district
-pub marked-ok : (P : Plan) (j m : ℕ) (p : BoxNo) → planSound P ≡ true → MarkOk P j m → isBox P p ≡ true → names P j (homeOf P p) ≡ true → MarkOk P j (marked m p)
+pub marked-ok : (P : Plan) (j m : ℕ) (p : BoxNo) → planSound P ≡ true → MarkOk P j m → isBox P p ≡ true → names P j (homeOf P p) ≡ true
+    → MarkOk P j (marked m p)
 unfolding marked marksIn
 marked-ok P j m p s M h n =
     let l = box-says P p h in
     let b = boxes-most P s in
     rw (pick-true (withDigit m (p .0)) m (lt-ltb (p .0) mostMarks (omega arith)))
-    (record { low = with-digit-low m (boxesOf P) (p .0) (M .low) l; named = λ d ld u. other d u (ℕ-discrete d (homeOf P p .0)) (decLt (p .0) (d * sizeOf P)) ∙ M .named d ld u })
+    (record {
+      low = with-digit-low m (boxesOf P) (p .0) (M .low) l;
+      named = λ d ld u. other d u (ℕ-discrete d (homeOf P p .0)) (decLt (p .0) (d * sizeOf P)) ∙ M .named d ld u;
+    })
   where
     other : (d : ℕ) → names P j (district d) ≡ false → Dec (d ≡ homeOf P p .0) → Dec (p .0 < d * sizeOf P)
         → part (withDigit m (p .0)) (d * sizeOf P) (sizeOf P) ≡ part m (d * sizeOf P) (sizeOf P)

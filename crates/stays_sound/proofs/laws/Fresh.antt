@@ -24,7 +24,7 @@ use Rattle.boxes.specs.Sound.{sound}
 use Rattle.boxes.specs.Cut.{cut}
 use Rattle.boxes.specs.declared.BoxState.{BoxState}
 use Rattle.boxes.proofs.laws.Parts.{not-kept, KeptsOk, MarkOk, MarksOk}
-use Rattle.boxes.proofs.laws.Sound.{VoteOk, not-held, SoundBox, sound-says, sound-is}
+use Rattle.boxes.proofs.laws.Sound.{VoteOk, not-held, SoundBox, sound-is}
 use Rattle.boxes.specs.Lengths.{Lengths}
 
 pub no-rows : NoRows noRows
@@ -44,7 +44,9 @@ unfolding keptAt
 none-kept P =
     record {
       pair = λ j d lj ld.
-          not-kept (getD-replicate 256 (j * mostDistricts + d) noBallot noBallot (omega arith)) (getD-replicate 256 (j * mostDistricts + d) noStamp noStamp (omega arith));
+          not-kept
+          (getD-replicate 256 (j * mostDistricts + d) noBallot noBallot (omega arith))
+          (getD-replicate 256 (j * mostDistricts + d) noStamp noStamp (omega arith));
     }
 
 none-marked : (P : Plan) → MarksOk P (replicate mostJobs noMarks)
@@ -59,7 +61,8 @@ fresh-sound P own s h =
       plan = s;
       own = h;
       clock = omega arith;
-      ballots = record { at-most = ballotOrder .irrefl noBallot; equal = λ e. refl; ballot-home = rw no-ballot-is; cballot-home = rw no-ballot-is; leader = λ e. never e refl };
+      ballots =
+          record { at-most = ballotOrder .irrefl noBallot; equal = λ e. refl; ballot-home = rw no-ballot-is; cballot-home = rw no-ballot-is; leader = λ e. never e refl };
       table = no-rows-ok P (homeOf P own) noRows no-rows;
       sent = record { behind = λ j n l. getD-replicate mostJobs j false false l };
       kept = none-kept P;
@@ -105,20 +108,3 @@ cut-sound {P} {x} S =
 pub cut-lengths : {x : BoxState} → Lengths x → Lengths (cut x)
 unfolding cut freshVolatile
 cut-lengths L = record { table = L .table; sent = L .sent; list = L .list; kept-ballots = refl; kept-stamps = refl; marks = refl; vote-table = refl }
-
-pub cut-is-sound : (P : Plan) (x : BoxState) → sound P x ≡ true → sound P (cut x) ≡ true
-cut-is-sound P x h = sound-is P (cut x) (cut-sound (sound-says P x h))
-
--- only the volatile part changes
-pub cut-core : (x : BoxState) → cut x .core ≡ x .core
-unfolding cut
-cut-core x = refl
-
--- it is as in a fresh box
-pub cut-volatile : (x : BoxState) (own : BoxNo) → cut x .volatile ≡ fresh own .volatile
-unfolding cut fresh
-cut-volatile x own = refl
-
-pub cut-cut : (x : BoxState) → cut (cut x) ≡ cut x
-unfolding cut
-cut-cut x = refl

@@ -19,10 +19,12 @@ use Rattle.house.specs.Plan.{sizeOf, boxesOf, isJob, homeOf, names, planSound}
 use Rattle.house.proofs.laws.Says.{boxes-most, names-job}
 use Rattle.house.specs.declared.Plan.{Plan}
 use Rattle.records.specs.Format.{hasJob, entry}
-use Rattle.records.specs.Rec.{Rec, Proposal, Handout, Ballotpaper, NewState, multicast, accept, accept-ack, deliver, newleader, newleader-ack, new-state, newstate-ack, unknown, carried, senderOf, addresseeOf}
+use Rattle.records.specs.Rec.{Rec, Proposal, Handout, Ballotpaper, NewState, multicast, accept, accept-ack, deliver, newleader, newleader-ack, new-state}
+use Rattle.records.specs.Rec.{newstate-ack, unknown, carried, senderOf, addresseeOf}
 use Rattle.records.specs.Bytes.{encode, encodeAll}
 use Rattle.records.specs.declared.Record.{Record}
-use Rattle.records.proofs.laws.Obeys.{Obeys, MulticastOk, AcceptOk, AckOk, DeliverOk, NewleaderOk, NewleaderAckOk, NewStateOk, NewstateAckOk, valid-says, valid-is}
+use Rattle.records.proofs.laws.Obeys.{Obeys, MulticastOk, AcceptOk, AckOk, DeliverOk, NewleaderOk, NewleaderAckOk, NewStateOk, NewstateAckOk, valid-says}
+use Rattle.records.proofs.laws.Obeys.{valid-is}
 use Rattle.boxes.specs.Out.{Out, toEach}
 use Rattle.boxes.specs.declared.BoxState.{BoxState}
 use Rattle.stays_sound.proofs.laws.Sends.{Every, no-step, a-step, Sized, Good, AllGood, in-each, each-most, home-most, good-nil, good-by}
@@ -38,7 +40,8 @@ named-job P j d n = lt-ltb j (P .jobs) (names-job P j d n)
 sized : {r : Record} → length (r .ballots) ≡ mostDistricts → length (r .stamps) ≡ 2 → length (r .table) ≡ mostJobs → Sized r
 sized b s t = record { ballots = b; stamps = s; table = t }
 
-good : {P : Plan} {from : BoxNo} → planSound P ≡ true → (m : Rec) → Obeys P m → (hasJob (carried m .kind) ≡ true → names P (carried m .job) (homeOf P (addresseeOf m)) ≡ true) → senderOf m ≡ from
+good : {P : Plan} {from : BoxNo} → planSound P ≡ true → (m : Rec) → Obeys P m
+    → (hasJob (carried m .kind) ≡ true → names P (carried m .job) (homeOf P (addresseeOf m)) ≡ true) → senderOf m ≡ from
     → Sized (carried m) → Good P from m
 good {P} s m o n b z = record { is-valid = valid-is P m s o; named = n; by = b; sized = z }
 
@@ -51,7 +54,8 @@ module _ {P : Plan} {from to : BoxNo} (s : planSound P ≡ true) where
   unfolding senderOf addresseeOf carried
   good-accept j y o n = good s (accept from to j y) o (λ h. n) refl (sized refl refl refl)
 
-  pub good-ack : (j : ℕ) (bs : List Ballot) → AckOk P from to j bs → length bs ≡ mostDistricts → names P j (homeOf P to) ≡ true → Good P from (accept-ack from to j bs)
+  pub good-ack : (j : ℕ) (bs : List Ballot) → AckOk P from to j bs → length bs ≡ mostDistricts → names P j (homeOf P to) ≡ true
+      → Good P from (accept-ack from to j bs)
   unfolding senderOf addresseeOf carried
   good-ack j bs o l n = good s (accept-ack from to j bs) o (λ h. n) refl (sized l refl refl)
 
@@ -128,7 +132,8 @@ unfolding encodeAll
 fits-none P = omega arith
 
 -- at most n good records of at most w bytes
-pub fits-few : {P : Plan} {from : BoxNo} (w n : ℕ) (l : List Rec) → planSound P ≡ true → AllGood P from l → length l ≤ n → ((m : Rec) → In m l → sizeOfRec P m ≤ w)
+pub fits-few : {P : Plan} {from : BoxNo} (w n : ℕ) (l : List Rec) → planSound P ≡ true → AllGood P from l → length l ≤ n
+    → ((m : Rec) → In m l → sizeOfRec P m ≤ w)
     → length (encodeAll P l) ≤ n * w
 fits-few {P} w n l s G c h = few-most P w n l c (λ m i. let e = good-size s (G .each m i) in let k = h m i in omega arith)
 
@@ -147,7 +152,8 @@ fits-home {P} meant f d s G k h =
     omega (arith, size-most P)
 
 -- one, of any kind
-pub fits-one : {P : Plan} {from : BoxNo} (m : Rec) → planSound P ≡ true → AllGood P from (m ∷ []) → sizeOfRec P m ≤ 723 → length (encodeAll P (m ∷ [])) ≤ longestOutput
+pub fits-one : {P : Plan} {from : BoxNo} (m : Rec) → planSound P ≡ true → AllGood P from (m ∷ []) → sizeOfRec P m ≤ 723
+    → length (encodeAll P (m ∷ [])) ≤ longestOutput
 fits-one {P} m s G h = let r = fits-few 723 1 (m ∷ []) s G (omega arith) (λ k i. rw (in-one i) h) in omega arith
 
 -- ---- steps one behind the other

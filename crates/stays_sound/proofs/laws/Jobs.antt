@@ -10,8 +10,8 @@ use lib.ListN.{length, getD}
 use lib.Seq.{getD-set-same}
 use lib.Dec.{ltb, eqb}
 use borrow.Author.Tests.{eqb-false, eq-eqb, ne-eqb, ltb-true, not-true}
-use Rattle.laws.specs.Choice.{pick, pick-false}
-use Rattle.laws.proofs.laws.Choice.{pick-when, pick-both, never, or-other, not-of, both}
+use Rattle.laws.specs.Choice.{pick}
+use Rattle.laws.proofs.laws.Choice.{pick-false, pick-when, pick-both, never, or-other, not-of, both}
 use Rattle.laws.proofs.laws.Fold.{all-says, some-is}
 use Rattle.house.specs.Limits.{mostDistricts, mostJobs, mostTime}
 use Rattle.house.specs.Pairs.{district, stamp, noStamp, noBallot, noRow, stampLt, sameBallot, stampOf}
@@ -86,7 +86,8 @@ module _ {P : Plan} {x : BoxState} (F : Fine P x) where
   accepts-fit j G = fits-each (λ p. names P j (homeOf P p)) (λ to. accept (ownOf x) to j (proposalOf x j)) (F .sound .plan) G (λ to. omega arith)
 
   -- the leader has a stamp for the job, new or stored
-  proposed-ok : (j : ℕ) → names P j (homeOf P (x .core .own)) ≡ true → isLeader (x .core .status) ≡ true → (not (eqb (rowAt x j .phase) 0) || ltb (x .core .clock) mostTime) ≡ true
+  proposed-ok : (j : ℕ) → names P j (homeOf P (x .core .own)) ≡ true → isLeader (x .core .status) ≡ true
+      → (not (eqb (rowAt x j .phase) 0) || ltb (x .core .clock) mostTime) ≡ true
       → ProposedOk P x j (proposed P x j)
   unfolding proposed rowAt
   proposed-ok j n l c =
@@ -177,7 +178,11 @@ module _ {P : Plan} {x : BoxState} (F : Fine P x) where
       let S = F .sound in
       good-each (keptBox P x j) (λ to. accept-ack (ownOf x) to j (keptVector P x j))
       (λ to h q.
-      good-ack (S .plan) j (keptVector P x j) (record { sender = S .own; addressee = h; job = named-job P j (homeOf P (x .core .own)) n; named = n; vector = vector-ok j k })
+      good-ack
+      (S .plan)
+      j
+      (keptVector P x j)
+      (record { sender = S .own; addressee = h; job = named-job P j (homeOf P (x .core .own)) n; named = n; vector = vector-ok j k })
       (vector-size j) (both q .0))
 
   acks-fit : (j : ℕ) → AllGood P (x .core .own) (acks P x j) → length (encodeAll P (acks P x j)) ≤ longestOutput
@@ -203,13 +208,15 @@ when-kept {P} {x} j F n =
     a-step (record { fine = G; same = refl; good = g; fits = acks-fit G j g }))
     (λ h. a-step (keeps-quiet F refl))
 
-pub accept-keeps : {P : Plan} {x : BoxState} (from : BoxNo) (j : ℕ) (y : Proposal) → Fine P x → AcceptOk P from (x .core .own) j y → Every (Keeps P x) (onAccept P x from j y)
+pub accept-keeps : {P : Plan} {x : BoxState} (from : BoxNo) (j : ℕ) (y : Proposal) → Fine P x → AcceptOk P from (x .core .own) j y
+    → Every (Keeps P x) (onAccept P x from j y)
 unfolding onAccept kept
 accept-keeps {P} {x} from j y F O =
     simp under-or (every-guard _ _ _ (λ n. every-guard _ _ _ (λ r. every-guard _ _ _ (λ b. every-on refl (when-kept j (kept-fine F from j y O) n)))))
 
 -- the own district's ACCEPT is kept where the record agrees with it
-agree-some : {P : Plan} {x : BoxState} (j : ℕ) (bs : List Ballot) → Fine P x → agree P x j bs ≡ true → Vector P j bs → names P j (homeOf P (x .core .own)) ≡ true
+agree-some : {P : Plan} {x : BoxState} (j : ℕ) (bs : List Ballot) → Fine P x → agree P x j bs ≡ true → Vector P j bs
+    → names P j (homeOf P (x .core .own)) ≡ true
     → keptBallot x j (homeOf P (x .core .own)) ≢ noBallot
 unfolding agree agreeBelow
 agree-some {P} {x} j bs F h W n e =
@@ -223,7 +230,8 @@ agree-some {P} {x} j bs F h W n e =
     real (W .place (d .0) (omega arith)) (ballotOrder .eq-says (getD bs (d .0) noBallot) (keptBallot x j d) q ∙ e)
   where
     real : {b : Ballot} → BallotFor P j (homeOf P (x .core .own) .0) b → b ≡ noBallot → ⊥
-    real {b} (for-named k i) z = let r = ballot-in-says P (homeOf P (x .core .own)) b i .real .some-number in let y = ap (λ (c : Ballot). c .number) z in omega arith
+    real {b} (for-named k i) z =
+        let r = ballot-in-says P (homeOf P (x .core .own)) b i .real .some-number in let y = ap (λ (c : Ballot). c .number) z in omega arith
     real (for-other k i) z = never n k
 
 -- phase 3: the stamps both come from the kept ones
@@ -242,7 +250,8 @@ when-marked {P} {x} j F n l k =
     (a-step (keeps-on refl (hand-out-keeps (committed-fine j F (holds (F .sound) j (homeOf P (x .core .own)) n k)) (F .sound .ballots .leader l))))
     (a-step (keeps-quiet F refl))
 
-pub accept-ack-keeps : {P : Plan} {x : BoxState} (from : BoxNo) (j : ℕ) (bs : List Ballot) → Fine P x → AckOk P from (x .core .own) j bs → Every (Keeps P x) (onAcceptAck P x from j bs)
+pub accept-ack-keeps : {P : Plan} {x : BoxState} (from : BoxNo) (j : ℕ) (bs : List Ballot) → Fine P x → AckOk P from (x .core .own) j bs
+    → Every (Keeps P x) (onAcceptAck P x from j bs)
 unfolding onAcceptAck marksAt keptBallot
 accept-ack-keeps {P} {x} from j bs F O =
     simp under-or
@@ -259,7 +268,8 @@ accept-ack-keeps {P} {x} from j bs F O =
     every-on refl (when-marked j G n l (agree-some j bs F a (O .vector) n)))))))
 
 -- a job with a stamp above the last, not on the list
-delivered-addable : (P : Plan) (x : BoxState) (j : ℕ) (s : Stamp) → names P j (homeOf P (x .core .own)) ≡ true → stampNamed P j s ≡ true → stampLt (lastStamp x) s ≡ true
+delivered-addable : (P : Plan) (x : BoxState) (j : ℕ) (s : Stamp) → names P j (homeOf P (x .core .own)) ≡ true → stampNamed P j s ≡ true
+    → stampLt (lastStamp x) s ≡ true
     → onList x j ≡ false → Addable P (homeOf P (x .core .own)) (x .core .count) (x .core .list) j s
 unfolding lastStamp onList listedAt
 delivered-addable P x j s n r a o =
@@ -278,7 +288,8 @@ global-named : (P : Plan) (j : ℕ) (d : District) (l g : Stamp) → bothStamps 
 unfolding bothStamps
 global-named P j d l g h = both {b = not (stampLt g l)} (both {a = stampOf d l} h .1) .0
 
-pub deliver-keeps : {P : Plan} {x : BoxState} (from : BoxNo) (j : ℕ) (y : Handout) → Fine P x → DeliverOk P from (x .core .own) j y → Every (Keeps P x) (onDeliver P x j y)
+pub deliver-keeps : {P : Plan} {x : BoxState} (from : BoxNo) (j : ℕ) (y : Handout) → Fine P x → DeliverOk P from (x .core .own) j y
+    → Every (Keeps P x) (onDeliver P x j y)
 unfolding onDeliver delivered
 deliver-keeps {P} {x} from j y F O =
     simp under-or

@@ -7,8 +7,8 @@ use mathlib.Core.Path.{_≡_, refl, sym, ap, _∙_}
 use native.Mathlib.Nat.{eq-or-lt-of-le}
 use native.Mathlib.Omega.{arith}
 use borrow.Author.Tests.{not-true}
-use Rattle.laws.specs.Choice.{pick, pick-true}
-use Rattle.laws.proofs.laws.Choice.{pick-when, never, or-other, not-of}
+use Rattle.laws.specs.Choice.{pick}
+use Rattle.laws.proofs.laws.Choice.{pick-true, pick-when, never, or-other, not-of}
 use Rattle.laws.proofs.laws.Fold.{upto-keeps, all-says}
 use Rattle.laws.specs.Lex.{larger}
 use Rattle.laws.proofs.laws.Lex.{larger-left, larger-right, le-trans, above-none}
@@ -64,7 +64,8 @@ module _ {P : Plan} {x : BoxState} (S : SoundBox P x) where
       never (rw e no-ballot-is)
       (not-true (isNoBallot (keptBallot x j d))
       (or-other (not (names P j d)) (not (isNoBallot (keptBallot x j d)))
-      (all-says (λ e. not (names P j (district e)) || not (isNoBallot (keptBallot x j (district e)))) (P .districts) h (d .0) (names-district P j d (S .plan) n)) (not-of n))))
+      (all-says (λ e. not (names P j (district e)) || not (isNoBallot (keptBallot x j (district e)))) (P .districts) h (d .0) (names-district P j d (S .plan) n))
+      (not-of n))))
 
   -- ---- the largest
 
@@ -80,21 +81,33 @@ module _ {P : Plan} {x : BoxState} (S : SoundBox P x) where
   unfolding latestKept larger
   latest-ok j n =
       upto-keeps (Latest P j) (λ s d. pick (names P j (district d)) (laterStamp s (keptStamp x j (district d))) s) noStamp n (no-latest refl)
-      (λ s d l q. pick-when (Latest P j) (names P j (district d)) (λ h. pick-when (Latest P j) (stampLt s (keptStamp x j (district d))) (λ k. of-kept j (district d) h) (λ k. q)) (λ h. q))
+      (λ s d l q.
+      pick-when
+      (Latest P j)
+      (names P j (district d))
+      (λ h. pick-when (Latest P j) (stampLt s (keptStamp x j (district d))) (λ k. of-kept j (district d) h) (λ k. q))
+      (λ h. q))
 
 -- it is below none of them
-pub latest-above : (P : Plan) (x : BoxState) (j n d : ℕ) → d < n → names P j (district d) ≡ true → stampLt (latestKept P x j n) (keptStamp x j (district d)) ≡ false
+pub latest-above : (P : Plan) (x : BoxState) (j n d : ℕ) → d < n → names P j (district d) ≡ true
+    → stampLt (latestKept P x j n) (keptStamp x j (district d)) ≡ false
 unfolding latestKept
 latest-above P x j zero d l h = absurd (omega arith)
 latest-above P x j (suc n) d l h =
     ⊎-elim
-    (λ e. rw (e, pick-true (laterStamp (latestKept P x j n) (keptStamp x j (district n))) (latestKept P x j n) (rw e at h)) (larger-right stampOrder (latestKept P x j n) (keptStamp x j (district n))))
+    (λ e.
+    rw
+    (e, pick-true (laterStamp (latestKept P x j n) (keptStamp x j (district n))) (latestKept P x j n) (rw e at h))
+    (larger-right stampOrder (latestKept P x j n) (keptStamp x j (district n))))
     (λ b. le-trans stampOrder (keptStamp x j (district d)) (latestKept P x j n) (latestKept P x j (suc n)) (latest-above P x j n d b h) up)
     (eq-or-lt-of-le {n = d} {m = n} (omega arith))
   where
     up : stampLt (latestKept P x j (suc n)) (latestKept P x j n) ≡ false
     up =
-        pick-when (λ q. stampLt q (latestKept P x j n) ≡ false) (names P j (district n)) (λ k. larger-left stampOrder (latestKept P x j n) (keptStamp x j (district n)))
+        pick-when
+        (λ q. stampLt q (latestKept P x j n) ≡ false)
+        (names P j (district n))
+        (λ k. larger-left stampOrder (latestKept P x j n) (keptStamp x j (district n)))
         (λ k. stampOrder .irrefl (latestKept P x j n))
 
 -- its time is in range
@@ -103,7 +116,8 @@ latest-low (no-latest e) = let q = ap (λ (s : Stamp). s .time) e in omega arith
 latest-low {P} {j} {s} (a-latest h) = stamp-named-says P j s h .0 .fits
 
 -- where the own district is kept, its stamp and the largest are a commit's stamps
-pub commit-stamps : {P : Plan} {x : BoxState} → SoundBox P x → (j : ℕ) (d : District) → Holds P x j d → bothStamps P j d (keptStamp x j d) (latestKept P x j (P .districts)) ≡ true
+pub commit-stamps : {P : Plan} {x : BoxState} → SoundBox P x → (j : ℕ) (d : District) → Holds P x j d
+    → bothStamps P j d (keptStamp x j d) (latestKept P x j (P .districts)) ≡ true
 unfolding bothStamps
 commit-stamps {P} {x} S j d H = rw (H .stamp, real (latest-ok S j (P .districts)), above)
   where

@@ -10,8 +10,8 @@ use lib.Dec.{eqb}
 use lib.Pow.{pow-lt, pow-add, shl-shr}
 use lib.Bits.{or-lt, or-shr, or-mod, or-zero-r}
 use borrow.Author.Tests.{eqb-true, eq-eqb, ne-eqb}
-use Rattle.laws.specs.Choice.{pick, pick-true, pick-false}
-use Rattle.laws.proofs.laws.Choice.{look, never}
+use Rattle.laws.specs.Choice.{pick}
+use Rattle.laws.proofs.laws.Choice.{pick-true, pick-false, look, never}
 use Rattle.laws.specs.Fold.{someBelow}
 use Rattle.laws.proofs.laws.Fold.{some-says, some-is}
 use Rattle.laws.specs.Digits.{part, withDigit}
@@ -62,7 +62,8 @@ distinct-most (suc m) n f low once = go (look (someBelow (λ i. eqb (f i) m) n))
         (λ a b ha hb q. apart (w .0) a b (w .1) ha hb q (ℕ-discrete a (w .0)) (ℕ-discrete b (w .0))) in
         omega arith
     go (inr h) again =
-        let r = again n f (λ i l. let z = low i l in let d : f i ≢ m = λ s. never (some-is (λ k. eqb (f k) m) n i l (eq-eqb (f i) m s)) h in omega arith) once in
+        let r =
+        again n f (λ i l. let z = low i l in let d : f i ≢ m = λ s. never (some-is (λ k. eqb (f k) m) n i l (eq-eqb (f i) m s)) h in omega arith) once in
         omega arith
 
 -- the next multiple is not beyond a later one
@@ -84,5 +85,6 @@ pub part-above : (n i a k : ℕ) → a + k ≤ i → part (withDigit n i) a k �
 unfolding withDigit part
 part-above n i a k h =
     let e : i ≡ (i - a - k + k) + a = omega arith in
-    let s : 2 ^ i / 2 ^ a ≡ 2 ^ (i - a - k) * 2 ^ k = ap (λ (x : ℕ). 2 ^ x / 2 ^ a) e ∙ rw (pow-add 2 (i - a - k + k) a, shl-shr (2 ^ (i - a - k + k)) a) (pow-add 2 (i - a - k) k) in
+    let s : 2 ^ i / 2 ^ a ≡ 2 ^ (i - a - k) * 2 ^ k =
+    ap (λ (x : ℕ). 2 ^ x / 2 ^ a) e ∙ rw (pow-add 2 (i - a - k + k) a, shl-shr (2 ^ (i - a - k + k)) a) (pow-add 2 (i - a - k) k) in
     rw (or-shr n (2 ^ i) a, s, or-mod (n / 2 ^ a) (2 ^ (i - a - k) * 2 ^ k) k, mul-mod-left, or-zero-r (n / 2 ^ a % 2 ^ k))

@@ -8,8 +8,7 @@ use native.Mathlib.Omega.{arith}
 use lib.ListN.{length, replicate, getD-replicate}
 use lib.Dec.{leb, eqb}
 use borrow.Author.Tests.{eqb-false, eq-eqb, leb-true, le-leb, not-true}
-use Rattle.laws.proofs.laws.Choice.{pick-both, never, or-right, both}
-use Rattle.laws.specs.Choice.{and-both}
+use Rattle.laws.proofs.laws.Choice.{pick-both, never, or-right, both, and-both}
 use Rattle.laws.proofs.laws.Lex.{lt-asym, le-lt}
 use Rattle.house.specs.Limits.{mostJobs, mostTime}
 use Rattle.house.specs.Pairs.{ballotLt, sameBallot, isNoBallot, timeFits, ballotOf}
@@ -67,7 +66,10 @@ in-or-none P d b h = or-right (isNoBallot b) (ballotIn P d b) h
 clock-ok : {P : Plan} {x : BoxState} → Fine P x → clockOf (homeOf P (x .core .own)) (clockStamp P x) ≡ true
 unfolding clockOf clockStamp timeFits
 clock-ok {P} {x} F =
-    and-both (leb (x .core .clock) mostTime) (eqb (homeOf P (x .core .own) .0) (homeOf P (x .core .own) .0)) (le-leb (x .core .clock) mostTime (F .sound .clock))
+    and-both
+    (leb (x .core .clock) mostTime)
+    (eqb (homeOf P (x .core .own) .0) (homeOf P (x .core .own) .0))
+    (le-leb (x .core .clock) mostTime (F .sound .clock))
     (eq-eqb (homeOf P (x .core .own) .0) (homeOf P (x .core .own) .0) refl)
 
 clock-low : (d : District) (s : Stamp) → clockOf d s ≡ true → s .time ≤ mostTime
@@ -107,7 +109,8 @@ module _ {P : Plan} {x : BoxState} (F : Fine P x) where
       go h =
           let S = F .sound in
           let g = good-one (good-newleader-ack (S .plan) paper
-          (record { near = back (O .near); its-ballot = O .own-ballot; lower = above-cballot b h; cballot-home = S .ballots .cballot-home; clock = clock-ok F; table = S .table }) (F .lengths .table)) in
+          (record { near = back (O .near); its-ballot = O .own-ballot; lower = above-cballot b h; cballot-home = S .ballots .cballot-home; clock = clock-ok F; table = S .table })
+          (F .lengths .table)) in
           record {
             fine = joined-fine b h (rw (O .near .home) at (own-home P from b (O .near .sender) (O .own-ballot)));
             same = refl;
@@ -124,7 +127,8 @@ abbrev stateOf : Plan → BoxState → NewState
 stateOf P x = record { ballot = x .core .ballot; clock = clockStamp P x; table = x .core .table }
 
 -- 7 to them
-states-good : {P : Plan} {x : BoxState} → Fine P x → ballotOf (x .core .own) (x .core .ballot) ≡ true → Unproposed (x .core .table) → AllGood P (x .core .own) (newStates P x)
+states-good : {P : Plan} {x : BoxState} → Fine P x → ballotOf (x .core .own) (x .core .ballot) ≡ true → Unproposed (x .core .table)
+    → AllGood P (x .core .own) (newStates P x)
 unfolding newStates
 states-good {P} {x} F o u =
     let S = F .sound in
@@ -134,7 +138,13 @@ states-good {P} {x} F o u =
     let e = same-home-says P to (x .core .own) (m .0) in
     let n = eqb-false (to .0) (x .core .own .0) (not-true (eqb (to .0) (x .core .own .0)) (m .1)) in
     good-new-state (S .plan) (stateOf P x)
-    (record { other = record { near = record { sender = S .own; addressee = h; home = sym e }; apart = λ q. n (sym q) }; own-ballot = o; clock = clock-ok F; table = S .table; unproposed = u })
+    (record {
+      other = record { near = record { sender = S .own; addressee = h; home = sym e }; apart = λ q. n (sym q) };
+      own-ballot = o;
+      clock = clock-ok F;
+      table = S .table;
+      unproposed = u;
+    })
     (F .lengths .table))
 
 states-fit : {P : Plan} {x : BoxState} → Fine P x → AllGood P (x .core .own) (newStates P x) → length (encodeAll P (newStates P x)) ≤ longestOutput
@@ -147,7 +157,8 @@ states-fit {P} {x} F G =
 
 module _ {P : Plan} {x : BoxState} (F : Fine P x) where
   -- the paper that is kept or merged
-  paper-ok : (from : BoxNo) (y : Ballotpaper) → NewleaderAckOk P from (x .core .own) y → y .ballot ≡ x .core .ballot → PaperOk P (x .core .own) (x .core .ballot) (voteOf from y)
+  paper-ok : (from : BoxNo) (y : Ballotpaper) → NewleaderAckOk P from (x .core .own) y → y .ballot ≡ x .core .ballot
+      → PaperOk P (x .core .own) (x .core .ballot) (voteOf from y)
   unfolding voteOf
   paper-ok from y O e =
       record {
@@ -160,7 +171,8 @@ module _ {P : Plan} {x : BoxState} (F : Fine P x) where
       }
 
   -- the first vote is kept
-  voted-fine : (from : BoxNo) (y : Ballotpaper) → PaperOk P (x .core .own) (x .core .ballot) (voteOf from y) → length (y .table) ≡ mostJobs → Fine P (putVote x (voteOf from y))
+  voted-fine : (from : BoxNo) (y : Ballotpaper) → PaperOk P (x .core .own) (x .core .ballot) (voteOf from y) → length (y .table) ≡ mostJobs
+      → Fine P (putVote x (voteOf from y))
   unfolding voteOf
   voted-fine from y p n = put-vote F (voteOf from y) (is-held refl p) n
 
@@ -173,17 +185,25 @@ module _ {P : Plan} {x : BoxState} (F : Fine P x) where
       let G = put-sent (put-table F (topClock l) (mergedTable l (P .jobs)) (clock-most l K) (M .size) (M .table)) (replicate mostJobs false) refl
       (record { behind = λ j n h. getD-replicate mostJobs j false false h }) in
       put-mode (put-vote G noVote (no-vote-ok P (x .core .own) (x .core .ballot)) refl) Recovering (x .core .ballot) (x .core .ballot)
-      (record { at-most = ballotOrder .irrefl (x .core .ballot); equal = λ e. refl; ballot-home = B .ballot-home; cballot-home = B .ballot-home; leader = λ e. never e refl })
+      (record {
+        at-most = ballotOrder .irrefl (x .core .ballot);
+        equal = λ e. refl;
+        ballot-home = B .ballot-home;
+        cballot-home = B .ballot-home;
+        leader = λ e. never e refl;
+      })
       (no-vote-ok P (x .core .own) (x .core .ballot))
 
-  merged-keeps : (l : List Vote) → Papers P (x .core .own) (x .core .ballot) l → ballotOf (x .core .own) (x .core .ballot) ≡ true → Keeps P x (merged P x l) (newStates P (merged P x l))
+  merged-keeps : (l : List Vote) → Papers P (x .core .own) (x .core .ballot) l → ballotOf (x .core .own) (x .core .ballot) ≡ true
+      → Keeps P x (merged P x l) (newStates P (merged P x l))
   unfolding merged
   merged-keeps l K o =
       let G = merged-fine l K in
       let g = states-good G o (merged-ok l (F .sound .plan) K .unproposed) in
       record { fine = G; same = refl; good = g; fits = states-fit G g }
 
-  pub newleader-ack-keeps : (from : BoxNo) (y : Ballotpaper) → NewleaderAckOk P from (x .core .own) y → length (y .table) ≡ mostJobs → Every (Keeps P x) (onNewleaderAck P x from y)
+  pub newleader-ack-keeps : (from : BoxNo) (y : Ballotpaper) → NewleaderAckOk P from (x .core .own) y → length (y .table) ≡ mostJobs
+      → Every (Keeps P x) (onNewleaderAck P x from y)
   unfolding onNewleaderAck whenVoted
   newleader-ack-keeps from y O n =
       simp under-or (every-guard _ _ _ (λ h. every-guard _ _ _ (λ k. every-guard _ _ _ (λ q. go (ballotOrder .eq-says (y .ballot) (x .core .ballot) k)))))
@@ -200,12 +220,17 @@ module _ {P : Plan} {x : BoxState} (F : Fine P x) where
 
   -- ---- 7 NEW_STATE
 
-  followed-fine : (from : BoxNo) (y : NewState) → NewStateOk P from (x .core .own) y → length (y .table) ≡ mostJobs → y .ballot ≡ x .core .ballot → Fine P (followed x y)
+  followed-fine : (from : BoxNo) (y : NewState) → NewStateOk P from (x .core .own) y → length (y .table) ≡ mostJobs → y .ballot ≡ x .core .ballot
+      → Fine P (followed x y)
   unfolding followed
   followed-fine from y O n e =
       let S = F .sound in
       let h = O .other .near .home in
-      put-mode (put-table F (y .clock .time) (y .table) (clock-low (homeOf P from) (y .clock) (O .clock)) n (rw h at (O .table))) Follower (x .core .ballot) (y .ballot)
+      put-mode
+      (put-table F (y .clock .time) (y .table) (clock-low (homeOf P from) (y .clock) (O .clock)) n (rw h at (O .table)))
+      Follower
+      (x .core .ballot)
+      (y .ballot)
       (record {
         at-most = rw e (ballotOrder .irrefl (x .core .ballot));
         equal = λ q. e;
@@ -215,7 +240,8 @@ module _ {P : Plan} {x : BoxState} (F : Fine P x) where
       })
       (S .vote)
 
-  pub new-state-keeps : (from : BoxNo) (y : NewState) → NewStateOk P from (x .core .own) y → length (y .table) ≡ mostJobs → Every (Keeps P x) (onNewState x from y)
+  pub new-state-keeps : (from : BoxNo) (y : NewState) → NewStateOk P from (x .core .own) y → length (y .table) ≡ mostJobs
+      → Every (Keeps P x) (onNewState x from y)
   unfolding onNewState followed
   new-state-keeps from y O n =
       simp under-or (every-guard _ _ _ (λ h. every-guard _ _ _ (λ k. a-step (go (ballotOrder .eq-says (y .ballot) (x .core .ballot) k)))))
@@ -224,7 +250,9 @@ module _ {P : Plan} {x : BoxState} (F : Fine P x) where
       go e =
           let s = F .sound .plan in
           let N = O .other in
-          let g = good-one (good-newstate-ack s (y .ballot) (record { other = record { near = back (N .near); apart = λ q. N .apart (sym q) }; its-ballot = O .own-ballot })) in
+          let g =
+          good-one
+          (good-newstate-ack s (y .ballot) (record { other = record { near = back (N .near); apart = λ q. N .apart (sym q) }; its-ballot = O .own-ballot })) in
           record { fine = followed-fine from y O n e; same = refl; good = g; fits = fits-one (newstate-ack (ownOf x) from (y .ballot)) s g (omega arith) }
 
   -- ---- 8 NEWSTATE_ACK
@@ -233,12 +261,15 @@ module _ {P : Plan} {x : BoxState} (F : Fine P x) where
   unfolding onNewstateAck leading
   newstate-ack-keeps from b O = simp under-or (every-guard _ _ _ (λ h. every-guard _ _ _ (λ k. a-step (go (both k)))))
     where
-      go : (sameBallot b (x .core .ballot) ≡ true) × (sameBallot b (x .core .cballot) ≡ true) → Keeps P x (handOut P (leading x) .box) (handOut P (leading x) .sent)
+      go : (sameBallot b (x .core .ballot) ≡ true) × (sameBallot b (x .core .cballot) ≡ true)
+          → Keeps P x (handOut P (leading x) .box) (handOut P (leading x) .sent)
       go k =
           let S = F .sound in
           let e = ballotOrder .eq-says b (x .core .ballot) (k .0) in
           let f = ballotOrder .eq-says b (x .core .cballot) (k .1) in
           let o : ballotOf (x .core .own) (x .core .cballot) ≡ true = rw f at (O .its-ballot) in
           let G = put-mode F Leader (x .core .ballot) (x .core .cballot)
-          (record { at-most = S .ballots .at-most; equal = λ q. sym f ∙ e; ballot-home = S .ballots .ballot-home; cballot-home = S .ballots .cballot-home; leader = λ q. o }) (S .vote) in
+          (record { at-most = S .ballots .at-most; equal = λ q. sym f ∙ e; ballot-home = S .ballots .ballot-home; cballot-home = S .ballots .cballot-home; leader = λ q. o })
+          (S .vote)
+          in
           keeps-on refl (hand-out-keeps G o)

@@ -11,8 +11,8 @@ use lib.ListN.{length, set}
 use lib.Seq.{getD-set-other}
 use lib.Dec.{ltb}
 use borrow.Author.Tests.{ltb-true, lt-ltb, le-ltb}
-use Rattle.laws.specs.Choice.{pick, pick-true, pick-false}
-use Rattle.laws.proofs.laws.Choice.{pick-when}
+use Rattle.laws.specs.Choice.{pick}
+use Rattle.laws.proofs.laws.Choice.{pick-true, pick-false, pick-when}
 use Rattle.laws.proofs.laws.Place.{at-each}
 use Rattle.house.specs.Limits.{mostJobs}
 use Rattle.house.specs.Pairs.{stampLt}
@@ -38,7 +38,8 @@ pub record Addable (P : Plan) (d : District) (n : ℕ) (l : List Listed) (j : �
   pub new : (i : ℕ) → i < n → entryAt l i .job ≢ j
 
 -- there is room for it
-pub list-room : {P : Plan} {d : District} {n : ℕ} {l : List Listed} {j : ℕ} → planSound P ≡ true → ListOk P d n l → names P j d ≡ true → ((i : ℕ) → i < n → entryAt l i .job ≢ j) → n < mostJobs
+pub list-room : {P : Plan} {d : District} {n : ℕ} {l : List Listed} {j : ℕ} → planSound P ≡ true → ListOk P d n l → names P j d ≡ true
+    → ((i : ℕ) → i < n → entryAt l i .job ≢ j) → n < mostJobs
 list-room {P} {d} {n} {l} {j} S L named new =
     let m = plan-says P S .jobs-most in
     let r = distinct-most (P .jobs) (suc n) job low (λ i k hi hk e. apart i k hi hk e (decLt i n) (decLt k n)) in
@@ -67,13 +68,15 @@ list-room {P} {d} {n} {l} {j} S L named new =
     apart i k hi hk e (no p) (yes q) = absurd (new k q (sym (old k q) ∙ sym e ∙ last i p))
     apart i k hi hk e (no p) (no q) = omega arith
 
-pub list-add : {P : Plan} {d : District} {n : ℕ} {l : List Listed} {j : ℕ} {s : Stamp} → planSound P ≡ true → length l ≡ mostJobs → ListOk P d n l → Addable P d n l j s
+pub list-add : {P : Plan} {d : District} {n : ℕ} {l : List Listed} {j : ℕ} {s : Stamp} → planSound P ≡ true → length l ≡ mostJobs → ListOk P d n l
+    → Addable P d n l j s
     → ListOk P d (n + 1) (set l n (record { job = j; stamp = s }))
 list-add {P} {d} {n} {l} {j} {s} S len L A =
     record {
       most = omega (arith, room);
       named = λ i h. at-each (λ (e : Listed). names P (e .job) d ≡ true) l n i new noListed fits (λ e. A .named) (λ q. L .named i (omega arith));
-      stamped = λ i h. at-each (λ (e : Listed). stampNamed P (e .job) (e .stamp) ≡ true) l n i new noListed fits (λ e. A .stamped) (λ q. L .stamped i (omega arith));
+      stamped =
+          λ i h. at-each (λ (e : Listed). stampNamed P (e .job) (e .stamp) ≡ true) l n i new noListed fits (λ e. A .stamped) (λ q. L .stamped i (omega arith));
       rising = λ i h.
           rw (other i (omega arith))
           (at-each (λ (e : Listed). stampLt (entryAt l i .stamp) (e .stamp) ≡ true) l n (suc i) new noListed fits (λ e. A .above i e) (λ q. L .rising i (omega arith)));

@@ -57,7 +57,11 @@ papers-two {P} {own} {b} {v} {u} k m = record { each = λ w i. go w (in-head i) 
 pub papers-with : {P : Plan} {own : BoxNo} {b : Ballot} (old new : Vote) → VoteOk P own b old → PaperOk P own b new → Papers P own b (votesWith old new)
 unfolding votesWith
 papers-with {P} {own} {b} old new o k =
-    pick-when (Papers P own b) (old .held) (λ h. pick-both (Papers P own b) (ltb (old .voter .0) (new .voter .0)) (papers-two (held h o) k) (papers-two k (held h o))) (λ h. papers-one k)
+    pick-when
+    (Papers P own b)
+    (old .held)
+    (λ h. pick-both (Papers P own b) (ltb (old .voter .0) (new .voter .0)) (papers-two (held h o) k) (papers-two k (held h o)))
+    (λ h. papers-one k)
   where
     held : old .held ≡ true → VoteOk P own b old → PaperOk P own b old
     held h (is-held e q) = q
@@ -94,8 +98,22 @@ module _ {P : Plan} {own : BoxNo} {b : Ballot} where
   merged-settled : (l : List Vote) (j : ℕ) → j < mostJobs → Papers P own b l → Settled P (homeOf P own) j (mergedRow l j)
   unfolding mergedRow committedAt acceptedAt
   merged-settled l j h K =
-      first-settled (committedAt j) j l (firstRow (acceptedAt (topBallot l) j) j l noRow) h K (λ v e z. let q = eqb-true (voteRow v j .phase) 3 e in omega arith)
-      (first-settled (acceptedAt (topBallot l) j) j l noRow h K (λ v e z. let q = eqb-true (voteRow v j .phase) 2 (both {a = sameBallot (v .cballot) (topBallot l)} e .1) in omega arith)
+      first-settled
+      (committedAt j)
+      j
+      l
+      (firstRow (acceptedAt (topBallot l) j) j l noRow)
+      h
+      K
+      (λ v e z. let q = eqb-true (voteRow v j .phase) 3 e in omega arith)
+      (first-settled
+      (acceptedAt (topBallot l) j)
+      j
+      l
+      noRow
+      h
+      K
+      (λ v e z. let q = eqb-true (voteRow v j .phase) 2 (both {a = sameBallot (v .cballot) (topBallot l)} e .1) in omega arith)
       (record { ok = at-start refl; unproposed = λ z. omega arith }))
 
   pub merged-ok : (l : List Vote) → planSound P ≡ true → Papers P own b l → MergedOk P (homeOf P own) (mergedTable l (P .jobs))
@@ -103,14 +121,20 @@ module _ {P : Plan} {own : BoxNo} {b : Ballot} where
   merged-ok l s K =
       let m = plan-says P s .jobs-most in
       upto-keeps (MergedOk P (homeOf P own)) (λ t j. set t j (mergedRow l j)) noRows (P .jobs)
-      (record { table = no-rows-ok P (homeOf P own) noRows no-rows; size = refl; unproposed = record { row = λ j h e. let q = ap (λ (r : Row). r .phase) (no-rows .row j h) in omega arith } })
+      (record {
+        table = no-rows-ok P (homeOf P own) noRows no-rows;
+        size = refl;
+        unproposed = record { row = λ j h e. let q = ap (λ (r : Row). r .phase) (no-rows .row j h) in omega arith };
+      })
       (λ t j h M. one t j (merged-settled l j (omega arith) K) (omega arith) M)
     where
-      one : (t : List Row) (j : ℕ) → Settled P (homeOf P own) j (mergedRow l j) → j < mostJobs → MergedOk P (homeOf P own) t → MergedOk P (homeOf P own) (set t j (mergedRow l j))
+      one : (t : List Row) (j : ℕ) → Settled P (homeOf P own) j (mergedRow l j) → j < mostJobs → MergedOk P (homeOf P own) t
+          → MergedOk P (homeOf P own) (set t j (mergedRow l j))
       one t j R h M =
           let n = M .size in
           record {
             table = table-set (M .table) j (mergedRow l j) (omega arith) (R .ok);
             size = length-set t j (mergedRow l j) ∙ n;
-            unproposed = record { row = λ k g. at-each (λ (q : Row). q .phase ≢ 1) t j k (mergedRow l j) noRow (omega arith) (λ e. R .unproposed) (λ e. M .unproposed .row k g) };
+            unproposed =
+                record { row = λ k g. at-each (λ (q : Row). q .phase ≢ 1) t j k (mergedRow l j) noRow (omega arith) (λ e. R .unproposed) (λ e. M .unproposed .row k g) };
           }

@@ -56,7 +56,8 @@ pub record Sent (n : ℕ) (meant : BoxNo → Bool) (f : BoxNo → Rec) (m : Rec)
   pub is-meant : meant (boxNo box) ≡ true
   pub is : m ≡ f (boxNo box)
 
-in-below : (meant : BoxNo → Bool) (f : BoxNo → Rec) (n : ℕ) {m : Rec} → In m (upto (λ l p. l ++ pick (meant (boxNo p)) (f (boxNo p) ∷ []) []) [] n) → Sent n meant f m
+in-below : (meant : BoxNo → Bool) (f : BoxNo → Rec) (n : ℕ) {m : Rec} → In m (upto (λ l p. l ++ pick (meant (boxNo p)) (f (boxNo p) ∷ []) []) [] n)
+    → Sent n meant f m
 in-below meant f zero i = absurd (in-nil i)
 in-below meant f (suc n) {m} i = go (in-cases before here i) (λ k. in-below meant f n k)
   where
@@ -67,7 +68,12 @@ in-below meant f (suc n) {m} i = go (in-cases before here i) (λ k. in-below mea
     here = pick (meant (boxNo n)) (f (boxNo n) ∷ []) []
 
     one : In m here → Sent (suc n) meant f m
-    one = pick-when (λ l. In m l → Sent (suc n) meant f m) (meant (boxNo n)) (λ h k. record { box = n; low = omega arith; is-meant = h; is = in-one k }) (λ h k. absurd (in-nil k))
+    one =
+        pick-when
+        (λ l. In m l → Sent (suc n) meant f m)
+        (meant (boxNo n))
+        (λ h k. record { box = n; low = omega arith; is-meant = h; is = in-one k })
+        (λ h k. absurd (in-nil k))
 
     go : In m before ⊎ In m here → (In m before → Sent n meant f m) → Sent (suc n) meant f m
     go (inl k) r = let z = r k in record { box = z .box; low = omega arith; is-meant = z .is-meant; is = z .is }
@@ -98,7 +104,8 @@ unfolding toEach
 each-most P meant f = let r = below-most meant f 0 (boxesOf P) (boxesOf P) (λ p l e. (omega arith, omega arith)) in omega arith
 
 -- and in one district as many as it has boxes
-pub home-most : (P : Plan) (meant : BoxNo → Bool) (f : BoxNo → Rec) (d : District) → ((p : BoxNo) → meant p ≡ true → homeOf P p ≡ d) → length (toEach P meant f) ≤ sizeOf P
+pub home-most : (P : Plan) (meant : BoxNo → Bool) (f : BoxNo → Rec) (d : District) → ((p : BoxNo) → meant p ≡ true → homeOf P p ≡ d)
+    → length (toEach P meant f) ≤ sizeOf P
 unfolding toEach
 home-most P meant f d h =
     let r = below-most meant f (d .0 * sizeOf P) (sizeOf P) (boxesOf P)

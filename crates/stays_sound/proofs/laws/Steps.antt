@@ -17,11 +17,12 @@ use Rattle.house.specs.declared.BoxNo.{BoxNo}
 use Rattle.house.specs.Plan.{boxesOf, officeOf, isBox, isOffice, homeOf, sameHome, names, planSound}
 use Rattle.house.proofs.laws.Says.{same-home-says}
 use Rattle.house.specs.declared.Plan.{Plan}
-use Rattle.records.specs.Rec.{Rec, multicast, accept, accept-ack, deliver, newleader, newleader-ack, new-state, newstate-ack, unknown, carried, meaning, addresseeOf}
+use Rattle.records.specs.Rec.{Rec, multicast, accept, accept-ack, deliver, newleader, newleader-ack, new-state, newstate-ack, unknown, carried, meaning}
+use Rattle.records.specs.Rec.{addresseeOf}
 use Rattle.records.specs.Rules.{valid}
 use Rattle.records.specs.Bytes.{encodeAll}
 use Rattle.records.specs.declared.Record.{Record}
-use Rattle.records.proofs.laws.Obeys.{Obeys, AcceptOk, AckOk, DeliverOk, NewleaderOk, NewleaderAckOk, NewStateOk, NewstateAckOk, valid-says}
+use Rattle.records.proofs.laws.Obeys.{Obeys, AcceptOk, AckOk, DeliverOk, NewleaderOk, NewleaderAckOk, NewStateOk, NewstateAckOk}
 use Rattle.records.proofs.laws.Structs.{carried-meaning, struct-obeys}
 use Rattle.boxes.specs.Box.{ownOf}
 use Rattle.boxes.specs.Sound.{sound}
@@ -47,7 +48,8 @@ use Rattle.stays_sound.proofs.laws.Leads.{newleader-keeps, newleader-ac
 -- ---- by kind
 
 -- a record to the box that obeys the rules, with its arrays' lengths
-pub react-every : {P : Plan} {x : BoxState} (m : Rec) → Fine P x → Obeys P m → Sized (carried m) → addresseeOf m ≡ x .core .own → Every (Keeps P x) (react P x m)
+pub react-every : {P : Plan} {x : BoxState} (m : Rec) → Fine P x → Obeys P m → Sized (carried m) → addresseeOf m ≡ x .core .own
+    → Every (Keeps P x) (react P x m)
 unfolding react addresseeOf carried
 react-every (multicast from to j) F O Z e = multicast-keeps j F
 react-every {P} {x} (accept from to j y) F O Z e = accept-keeps from j y F (subst (λ (q : BoxNo). AcceptOk P from q j y) e O)
@@ -125,7 +127,11 @@ fine P x h L = record { sound = sound-says P x h; lengths = L }
 pub takes-every : (P : Plan) (x : BoxState) (room : ℕ) (r : Record) → Lengths x → Sized r → Every (Keeps P x) (takes P x room r)
 unfolding takes addresseeOf
 takes-every P x room r L Z =
-    every-guard _ _ _ (λ s. every-guard _ _ _ (λ t. every-guard _ _ _ (λ v. every-guard _ _ _ (λ e. go (fine P x s L) v (ap boxNo (eqb-true (r .to .0) (ownOf x .0) e))))))
+    every-guard
+    _
+    _
+    _
+    (λ s. every-guard _ _ _ (λ t. every-guard _ _ _ (λ v. every-guard _ _ _ (λ e. go (fine P x s L) v (ap boxNo (eqb-true (r .to .0) (ownOf x .0) e))))))
   where
     go : Fine P x → valid P r ≡ true → r .to ≡ ownOf x → Every (Keeps P x) (react P x (meaning r))
     go F v e =
@@ -147,28 +153,11 @@ cut-off-every P x L = every-guard _ _ _ (λ s. a-step (cut-keeps (fine P x s L))
 -- ---- the theorems
 
 module _ (P : Plan) (x : BoxState) (L : Lengths x) {y : BoxState} {l : List Rec} {d : Delivery} where
-  -- a valid record to a sound box
-  pub react-keeps : (m : Rec) → sound P x ≡ true → valid P (carried m) ≡ true → Sized (carried m) → addresseeOf m ≡ ownOf x → react P x m ≡ does y l d → Keeps P x y l
-  react-keeps m s v Z e h = let F = fine P x s L in every-does (react-every m F (valid-says P m (F .sound .plan) v) Z e) h
-
   pub retry-keeps : (j : ℕ) → sound P x ≡ true → retry P x j ≡ does y l d → Keeps P x y l
   retry-keeps j s h = every-does (retry-every (fine P x s L) j) h
 
   pub stand-keeps : sound P x ≡ true → stand P x ≡ does y l d → Keeps P x y l
   stand-keeps s h = every-does (stand-every (fine P x s L)) h
-
-  -- the same for whatever is given to a box
-  pub takes-keeps : (room : ℕ) (r : Record) → Sized r → takes P x room r ≡ does y l d → Keeps P x y l
-  takes-keeps room r Z h = every-does (takes-every P x room r L Z) h
-
-  pub retried-keeps : (j room : ℕ) → retried P x j room ≡ does y l d → Keeps P x y l
-  retried-keeps j room h = every-does (retried-every P x j room L) h
-
-  pub stood-keeps : (room : ℕ) → stood P x room ≡ does y l d → Keeps P x y l
-  stood-keeps room h = every-does (stood-every P x room L) h
-
-  pub cut-off-keeps : cutOff P x ≡ does y l d → Keeps P x y l
-  cut-off-keeps h = every-does (cut-off-every P x L) h
 
 -- ---- what they say
 

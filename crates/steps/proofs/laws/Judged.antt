@@ -7,8 +7,10 @@ use Rattle.laws.specs.Choice.{pick}
 use Rattle.laws.proofs.laws.Choice.{pick-both}
 use Rattle.house.specs.declared.Plan.{Plan}
 use Rattle.records.specs.Answers.{unreadable}
-use Rattle.records.proofs.laws.Kinds.{says-multicast, says-accept, says-accept-ack, says-deliver, says-newleader, says-newleader-ack, says-new-state, says-newstate-ack}
-use Rattle.records.specs.Rec.{Rec, multicast, accept, accept-ack, deliver, newleader, newleader-ack, new-state, newstate-ack, unknown, meaning, ballotNo, stampNo}
+use Rattle.records.proofs.laws.Kinds.{says-multicast, says-accept, says-accept-ack, says-deliver, says-newleader, says-newleader-ack, says-new-state}
+use Rattle.records.proofs.laws.Kinds.{says-newstate-ack}
+use Rattle.records.specs.Rec.{Rec, multicast, accept, accept-ack, deliver, newleader, newleader-ack, new-state, newstate-ack, unknown, meaning, ballotNo}
+use Rattle.records.specs.Rec.{stampNo}
 use Rattle.records.specs.declared.Record.{Record}
 use Rattle.records.specs.declared.Answer.the-variants.{Done, No}
 use Rattle.boxes.specs.Out.{Out, refused}

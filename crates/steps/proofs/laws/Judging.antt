@@ -99,6 +99,8 @@ module _ (P : Plan) (x : BoxState) (s : List ℕ) (h : sound P x ≡ true) where
       let k : (room : ℕ) → leastTray ≤ room → receives P x room s ≡ guard mine otherBox o = λ room t. receives-on room t d ∙ ap taken (sym e) in
       record {
         refuse = λ n q room t. k room t ∙ five-no mine o (judged P x (meaning r)) n (judged-no P x (meaning r)) (sym ea ∙ q);
-        go = λ q room t. let f = five-done mine (judged P x (meaning r)) (sym ea ∙ q) in (k room t ∙ guard-on otherBox o (f .0), acting P x room r L Z h t v (f .0));
+        go =
+            λ q room t.
+            let f = five-done mine (judged P x (meaning r)) (sym ea ∙ q) in (k room t ∙ guard-on otherBox o (f .0), acting P x room r L Z h t v (f .0));
         done = λ q. five-done mine (judged P x (meaning r)) (sym ea ∙ q) .1;
       }

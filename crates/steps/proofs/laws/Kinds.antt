@@ -4,7 +4,8 @@ use mathlib.Core.Logic.{_≢_}
 use mathlib.Core.Path.{_≡_, ap}
 use native.Mathlib.Omega.{arith}
 use Rattle.house.specs.declared.Plan.{Plan}
-use Rattle.records.proofs.laws.Kinds.{says-multicast, says-accept, says-accept-ack, says-deliver, says-newleader, says-newleader-ack, says-new-state, says-newstate-ack}
+use Rattle.records.proofs.laws.Kinds.{says-multicast, says-accept, says-accept-ack, says-deliver, says-newleader, says-newleader-ack, says-new-state}
+use Rattle.records.proofs.laws.Kinds.{says-newstate-ack}
 use Rattle.records.specs.Format.{mostKind}
 use Rattle.records.specs.Rec.{meaning, ballotNo, stampNo}
 use Rattle.records.specs.declared.Record.{Record}
@@ -40,7 +41,8 @@ module _ (P : Plan) (x : BoxState) (r : Record) where
   unfolding react
   react-5 e = ap (react P x) (says-newleader r e)
 
-  pub react-6 : r .kind ≡ 6 → react P x (meaning r) ≡ onNewleaderAck P x (r .from) (record { ballot = ballotNo r 0; cballot = ballotNo r 1; clock = stampNo r 0; table = r .table })
+  pub react-6 : r .kind ≡ 6
+      → react P x (meaning r) ≡ onNewleaderAck P x (r .from) (record { ballot = ballotNo r 0; cballot = ballotNo r 1; clock = stampNo r 0; table = r .table })
   unfolding react
   react-6 e = ap (react P x) (says-newleader-ack r e)
 

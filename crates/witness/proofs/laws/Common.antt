@@ -10,6 +10,7 @@ use Rattle.witness.specs.Played.{played}
 use Rattle.witness.specs.Common.{ours, orders}
 
 -- every box of both districts has delivered job 0 with stamp (2,1), then job 1 with stamp (3,0)
-pub two-common-jobs : lists (after ours orders) ≡ replicate (boxesOf ours) ((record { job = 0; stamp = stamp 2 1 }) ∷ (record { job = 1; stamp = stamp 3 0 }) ∷ [])
+pub two-common-jobs : lists (after ours orders) ≡ replicate (boxesOf ours)
+    ((record { job = 0; stamp = stamp 2 1 }) ∷ (record { job = 1; stamp = stamp 3 0 }) ∷ [])
 unfolding played
 two-common-jobs = refl

@@ -9,7 +9,7 @@ use native.Mathlib.Omega.{arith}
 use lib.ListN.{getD, getElem?}
 use lib.Dec.{eqb}
 use borrow.Author.Tests.{eq-eqb}
-use Rattle.laws.specs.Choice.{and-both}
+use Rattle.laws.proofs.laws.Choice.{and-both}
 use Rattle.laws.specs.Fold.{someBelow}
 use Rattle.laws.proofs.laws.Fold.{some-is}
 use Rattle.laws.specs.Place.{At}
@@ -47,7 +47,12 @@ handed-any : (l : List Rec) (i m : ℕ) (p q : BoxNo) (b : Ballot) (s : Stamp) �
 handed-any l i m p q b s h =
     some-is (λ n. isHandout q m b (getD l n unknown)) i (h .place) (h .before)
     (ap (isHandout q m b) (getD-at-is l (h .place) unknown (h .there))
-    ∙ and-both (eqb (q .0) (q .0)) (eqb m m && sameBallot b b) (eq-eqb (q .0) (q .0) refl) (and-both (eqb m m) (sameBallot b b) (eq-eqb m m refl) (ballotOrder .eq-is b)))
+    ∙
+    and-both
+    (eqb (q .0) (q .0))
+    (eqb m m && sameBallot b b)
+    (eq-eqb (q .0) (q .0) refl)
+    (and-both (eqb m m) (sameBallot b b) (eq-eqb m m refl) (ballotOrder .eq-is b)))
 
 -- ---- two DELIVERs of a post, and what they break
 
@@ -88,7 +93,11 @@ module _ (P : Plan) (os : List Order) where
 
   -- `list-rises` is false: on the list of box p the stamp at place k is not below the one at place i
   pub falling-list : (p k i n : ℕ) (s t : Stamp)
-      → _≡_ {A = ℕ × (Stamp × Stamp)} (boxAt (after P os) p .core .count, (listedAt (boxAt (after P os) p) k .stamp, listedAt (boxAt (after P os) p) i .stamp)) (n, (s, t))
+      →
+      _≡_
+      {A = ℕ × (Stamp × Stamp)}
+      (boxAt (after P os) p .core .count, (listedAt (boxAt (after P os) p) k .stamp, listedAt (boxAt (after P os) p) i .stamp))
+      (n, (s, t))
       → p < boxesOf P → k < i → i < n → stampLt s t ≡ false → ListRises P → ⊥
   falling-list p k i n s t e low l h falls d =
       let longer = ap (λ r. r .0) e in
@@ -118,7 +127,12 @@ module _ (P : Plan) (os : List Order) where
     -- `handed-before` is false: when the first is handed out, the second, with a smaller stamp, was not given to box q before in this ballot
     pub out-of-turn : (q : BoxNo)
         → _≡_ {A = (Option Rec × Option Rec) × Bool} (atBoth posted a c, anyBefore posted (a .place) q (c .job) (a .ballot)) (written-both a c, false)
-        → stampLt (c .global) (a .global) ≡ true → names P (c .job) (homeOf P (a .by)) ≡ true → q .0 < boxesOf P → homeOf P q ≡ homeOf P (a .by) → HandsInOrder P → ⊥
+        → stampLt (c .global) (a .global) ≡ true
+        → names P (c .job) (homeOf P (a .by)) ≡ true
+        → q .0 < boxesOf P
+        → homeOf P q ≡ homeOf P (a .by)
+        → HandsInOrder P
+        → ⊥
     out-of-turn q e l named low home d =
         let none = ap (λ r. r .1) e in
         let out : HandsOut posted (a .place) (a .by) (a .job) (a .ballot) (a .global) = record { to = a .to; local = a .local; there = ap (λ r. r .0 .0) e } in

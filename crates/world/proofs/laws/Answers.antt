@@ -9,14 +9,14 @@ use native.Mathlib.Omega.{arith}
 use lib.ListN.{length}
 use lib.Dec.{ltb}
 use borrow.Author.Tests.{ltb-true, le-leb, eq-eqb}
-use Rattle.laws.proofs.laws.Choice.{pick-both}
-use Rattle.laws.specs.Choice.{and-left}
+use Rattle.laws.proofs.laws.Choice.{pick-both, and-left}
 use Rattle.house.specs.Limits.{leastTray}
 use Rattle.house.specs.declared.Ballot.{Ballot}
 use Rattle.house.specs.declared.BoxNo.{BoxNo}
 use Rattle.house.specs.Plan.{boxesOf, isJob, homeOf, names, planSound}
 use Rattle.house.specs.declared.Plan.{Plan}
-use Rattle.records.specs.Rec.{Rec, Proposal, Handout, Ballotpaper, NewState, multicast, accept, accept-ack, deliver, newleader, newleader-ack, new-state, newstate-ack, unknown, carried, senderOf, addresseeOf}
+use Rattle.records.specs.Rec.{Rec, Proposal, Handout, Ballotpaper, NewState, multicast, accept, accept-ack, deliver, newleader, newleader-ack, new-state}
+use Rattle.records.specs.Rec.{newstate-ack, unknown, carried, senderOf, addresseeOf}
 use Rattle.records.proofs.laws.Rec.{meaning-carried}
 use Rattle.boxes.specs.Box.{ownOf, homeIn}
 use Rattle.boxes.specs.Sound.{sound}
@@ -132,7 +132,8 @@ module _ (P : Plan) (x : BoxState) where
   react-late unknown o n e = absurd o
 
   -- a good record to the sound box that it is addressed to
-  pub takes-late : (m : Rec) → sound P x ≡ true → planSound P ≡ true → Good P (senderOf m) m → addresseeOf m ≡ ownOf x → Only (From 7) (takes P x leastTray (carried m))
+  pub takes-late : (m : Rec) → sound P x ≡ true → planSound P ≡ true → Good P (senderOf m) m → addresseeOf m ≡ ownOf x
+      → Only (From 7) (takes P x leastTray (carried m))
   unfolding takes addresseeOf
   takes-late m s p g e =
       only-holds _ _ _ s
@@ -181,7 +182,12 @@ module _ {P : Plan} {w : World} (R : Reached P w) where
       only-holds _ _ _ (R .plan) (only-after _ _ _ (omega arith) (λ e. stood-late P (boxAt w p) (R .box p (ltb-true p (boxesOf P) e) .is-sound)))
   given-late (retry p j) =
       only-holds _ _ _ (R .plan)
-      (only-after _ _ _ (omega arith) (λ e. retried-late P (boxAt w p) j (R .box p (ltb-true p (boxesOf P) (and-left (ltb p (boxesOf P)) (isJob P j) e)) .is-sound)))
+      (only-after
+      _
+      _
+      _
+      (omega arith)
+      (λ e. retried-late P (boxAt w p) j (R .box p (ltb-true p (boxesOf P) (and-left (ltb p (boxesOf P)) (isJob P j) e)) .is-sound)))
   given-late (cut p) =
       only-holds _ _ _ (R .plan) (only-after _ _ _ (omega arith) (λ e. cut-late P (boxAt w p) (R .box p (ltb-true p (boxesOf P) e) .is-sound)))
   given-late (carry k) = only-more (carry-late k)
@@ -193,9 +199,6 @@ module _ {P : Plan} {w : World} (R : Reached P w) where
   -- so no order answers 1, and none 2 to 5 or 12
   pub never-one : (o : Order) → given P w o ≢ refused 1
   never-one o e = let f = answers o 1 e .low in omega arith
-
-  pub never-early : (o : Order) (n : ℕ) → given P w o ≡ refused n → (n ≢ 1) × (n ≢ 2) × (n ≢ 3) × (n ≢ 4) × (n ≢ 5) × (n ≢ 12)
-  never-early o n e = let f = answers o n e in omega arith
 
   -- every answer of a carry is 7 to 11
   pub carry-answers : (k n : ℕ) → given P w (carry k) ≡ refused n → From 7 n

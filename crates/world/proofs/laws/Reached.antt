@@ -9,7 +9,7 @@ use native.Mathlib.Omega.{arith}
 use lib.ListN.{length, set, length-set}
 use lib.Dec.{ltb}
 use borrow.Author.Tests.{ltb-true}
-use Rattle.laws.specs.Choice.{and-left}
+use Rattle.laws.proofs.laws.Choice.{and-left}
 use Rattle.laws.specs.Place.{In}
 use Rattle.laws.proofs.laws.Place.{in-nil, in-cases, at-getD, at-each}
 use Rattle.house.specs.Limits.{leastTray}
@@ -28,7 +28,8 @@ use Rattle.boxes.specs.Lengths.{Lengths}
 use Rattle.stays_sound.proofs.laws.Fresh.{fresh-is-sound, fresh-lengths}
 use Rattle.stays_sound.proofs.laws.Sends.{Every, no-step, a-step, every-guard, Good}
 use Rattle.stays_sound.proofs.laws.Goods.{Keeps}
-use Rattle.stays_sound.proofs.laws.Steps.{takes-every, retried-every, stood-every, cut-off-every, posts-good, posts-fit, keeps-sound, keeps-lengths, keeps-good, keeps-fits}
+use Rattle.stays_sound.proofs.laws.Steps.{takes-every, retried-every, stood-every, cut-off-every, posts-good, posts-fit, keeps-sound, keeps-lengths, keeps-good}
+use Rattle.stays_sound.proofs.laws.Steps.{keeps-fits}
 use Rattle.world.proofs.laws.Boxes.{fresh-length, fresh-at, some-box, good-box}
 
 -- box p as it is in every reached world: its own number, sound, its arrays
@@ -99,7 +100,8 @@ acts-turned : {P : Plan} {w : World} (R : Reached P w) (o : Order) → exists P 
 unfolding exists acts whose
 acts-turned {P} {w} R (post j) e =
     let h = some-box P (R .plan) in
-    a-step (record { low = h; box = R .box 0 h; good = λ m i. by-sender (posts-good P j (R .plan) .each m i); fits = let f = posts-fit P j (R .plan) in omega arith })
+    a-step
+    (record { low = h; box = R .box 0 h; good = λ m i. by-sender (posts-good P j (R .plan) .each m i); fits = let f = posts-fit P j (R .plan) in omega arith })
 acts-turned {P} {w} R (stand p) e =
     let h = ltb-true p (boxesOf P) e in let B = R .box p h in
     every-turned h B (stood-every P (boxAt w p) leastTray (B .lengths))

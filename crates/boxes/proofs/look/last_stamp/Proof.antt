@@ -1,7 +1,7 @@
 -- `boxes::look::last_stamp` meets its contract.
 use mathlib.Core.Path.{sym, _∙_}
 use borrow.Author.Tests.{eq-eqb, ne-eqb}
-use Rattle.laws.specs.Choice.{pick-true, pick-false}
+use Rattle.laws.proofs.laws.Choice.{pick-true, pick-false}
 use Rattle.boxes.specs.Box.{lastStamp}
 use borrow.Author.Needs.{needs}
 use Rattle.boxes.proofs.look.last_stamp.Statement.{statement}

@@ -1,6 +1,6 @@
 -- `closing::endings::first_of` meets its contract.
 use Rattle.closing.specs.Endings.{firstOf}
-use Rattle.laws.specs.Choice.{pick-true, pick-false}
+use Rattle.laws.proofs.laws.Choice.{pick-true, pick-false}
 use borrow.Author.Tests.{eq-eqb, ne-eqb}
 use mathlib.Core.Path.{sym, _∙_}
 use Rattle.closing.proofs.endings.first_of.Statement.{statement}

@@ -2,7 +2,7 @@
 use Rattle.closing.proofs.laws.Laws.{first-jobs-length}
 use Rattle.closing.specs.Endings.{firstJobs}
 use Rattle.boxes.specs.Box.{listedAt}
-use Rattle.laws.specs.Codec.{fill-step}
+use Rattle.laws.proofs.laws.Codec.{fill-step}
 use Rattle.laws.proofs.laws.Fold.{upto-step}
 use lib.ListN.{replicate}
 use Prim.Native.Nat.{ℕ, _+_, _-_, _≤_}

@@ -1,5 +1,5 @@
 -- `closing::endings::with_holder` meets its contract.
-use Rattle.laws.specs.Choice.{pick-true, pick-false}
+use Rattle.laws.proofs.laws.Choice.{pick-true, pick-false}
 use mathlib.Core.Path.{sym, _∙_}
 use borrow.Author.Needs.{needs}
 use Rattle.closing.proofs.endings.with_holder.Statement.{statement}

@@ -2,7 +2,7 @@
 use Rattle.house.specs.Marks.{marked}
 use Rattle.laws.proofs.laws.Digits.{one-digit}
 use Rattle.laws.specs.Digits.{withDigit}
-use Rattle.laws.specs.Choice.{pick-true, pick-false}
+use Rattle.laws.proofs.laws.Choice.{pick-true, pick-false}
 use borrow.Author.Tests.{lt-ltb, le-ltb}
 use mathlib.Core.Path.{sym}
 use borrow.Author.Needs.{needs}

@@ -1,6 +1,6 @@
 -- `house::pairs::later_stamp` meets its contract.
 use Rattle.laws.specs.Lex.{larger}
-use Rattle.laws.specs.Choice.{pick-true, pick-false}
+use Rattle.laws.proofs.laws.Choice.{pick-true, pick-false}
 use mathlib.Core.Path.{sym, _∙_}
 use borrow.Author.Needs.{needs}
 use Rattle.house.proofs.pairs.later_stamp.Statement.{statement}

@@ -1,6 +1,6 @@
 -- `house::plans::mask_of` meets its contract.
 use Rattle.house.specs.Plan.{maskOf, isJob}
-use Rattle.laws.specs.Choice.{pick-true, pick-false}
+use Rattle.laws.proofs.laws.Choice.{pick-true, pick-false}
 use borrow.Author.Tests.{le-ltb, lt-ltb}
 use native.Mathlib.Omega.{arith}
 use lib.ListN.{length, List·getD-eq-default}

@@ -1,6 +1,6 @@
 -- `house::sound_plans::plan_sound` meets its contract.
 use Rattle.house.specs.Plan.{planSound, countsSound}
-use Rattle.laws.specs.Choice.{and-left, and-right}
+use Rattle.laws.proofs.laws.Choice.{and-left, and-right}
 use borrow.Author.Tests.{leb-true}
 use lib.Dec.{leb}
 use mathlib.Core.Path.{_≡_, sym, _∙_}

@@ -1,7 +1,7 @@
 -- `jobs::accept::ballot_fits` meets its contract.
 use mathlib.Core.Path.{sym, _∙_}
 use borrow.Author.Tests.{eq-eqb, ne-eqb}
-use Rattle.laws.specs.Choice.{pick-true, pick-false}
+use Rattle.laws.proofs.laws.Choice.{pick-true, pick-false}
 use Rattle.boxes.specs.Accept.{ballotFits}
 use borrow.Author.Needs.{needs}
 use Rattle.jobs.proofs.accept.ballot_fits.Statement.{statement}

@@ -1,6 +1,6 @@
 -- `jobs::accept::marks_after` meets its contract.
 use mathlib.Core.Path.{sym, _∙_}
-use Rattle.laws.specs.Choice.{pick-true, pick-false}
+use Rattle.laws.proofs.laws.Choice.{pick-true, pick-false}
 use borrow.Author.Needs.{needs}
 use Rattle.jobs.proofs.accept.marks_after.Statement.{statement}
 use Rattle.jobs.proofs.accept.marks_after.Tie as tie

@@ -1,7 +1,7 @@
 -- `jobs::accept::raise` meets its contract.
 use mathlib.Core.Path.{sym}
 use borrow.Author.Tests.{lt-ltb, le-ltb}
-use Rattle.laws.specs.Choice.{pick-true, pick-false}
+use Rattle.laws.proofs.laws.Choice.{pick-true, pick-false}
 use Rattle.boxes.specs.Box.{raised}
 use Rattle.jobs.proofs.accept.raise.Statement.{statement}
 use Rattle.jobs.proofs.accept.raise.Tie as tie

@@ -1,7 +1,7 @@
 -- `jobs::accept::row_accepted` meets its contract.
 use mathlib.Core.Path.{sym}
 use borrow.Author.Tests.{eq-eqb, ne-eqb}
-use Rattle.laws.specs.Choice.{pick-true, pick-false}
+use Rattle.laws.proofs.laws.Choice.{pick-true, pick-false}
 use Rattle.boxes.specs.Accept.{acceptedRow}
 use borrow.Author.Needs.{needs}
 use Rattle.jobs.proofs.accept.row_accepted.Statement.{statement}

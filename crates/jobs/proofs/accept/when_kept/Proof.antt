@@ -6,7 +6,7 @@ use Rattle.boxes.specs.declared.Delivery.the-variants.{Nothing}
 use Rattle.boxes.specs.Accept.{accepted, acks, whenKept}
 use Rattle.boxes.specs.Out.{does}
 use Rattle.laws.proofs.laws.Tray.{onto-nil}
-use Rattle.laws.specs.Choice.{pick-true, pick-false}
+use Rattle.laws.proofs.laws.Choice.{pick-true, pick-false}
 use mathlib.Core.Path.{sym, _∙_}
 use borrow.Author.Needs.{needs}
 use Rattle.jobs.proofs.accept.when_kept.Statement.{statement}

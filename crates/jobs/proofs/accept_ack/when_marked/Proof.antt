@@ -5,7 +5,7 @@ use Rattle.boxes.specs.AcceptAck.{committed, whenMarked}
 use Rattle.boxes.specs.Ready.{handing, handOut}
 use Rattle.boxes.specs.Out.{does}
 use Rattle.laws.proofs.laws.Tray.{onto-nil}
-use Rattle.laws.specs.Choice.{pick-true, pick-false}
+use Rattle.laws.proofs.laws.Choice.{pick-true, pick-false}
 use mathlib.Core.Path.{_≡_, sym, _∙_}
 use mathlib.Core.List.{[]}
 use borrow.Author.Needs.{needs}

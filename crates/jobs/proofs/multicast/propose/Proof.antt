@@ -1,7 +1,7 @@
 -- `jobs::multicast::propose` meets its contract.
 use mathlib.Core.Path.{sym, _∙_}
 use borrow.Author.Tests.{eq-eqb, ne-eqb}
-use Rattle.laws.specs.Choice.{pick-true, pick-false}
+use Rattle.laws.proofs.laws.Choice.{pick-true, pick-false}
 use Rattle.boxes.specs.Multicast.{proposed}
 use borrow.Author.Needs.{needs}
 use Rattle.jobs.proofs.multicast.propose.Statement.{statement}

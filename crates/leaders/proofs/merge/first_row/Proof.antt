@@ -1,6 +1,6 @@
 -- `leaders::merge::first_row` meets its contract.
 use mathlib.Core.Path.{sym, _∙_}
-use Rattle.laws.specs.Choice.{pick-true, pick-false}
+use Rattle.laws.proofs.laws.Choice.{pick-true, pick-false}
 use Rattle.leaders.proofs.merge.first_row.Statement.{statement}
 use Rattle.leaders.proofs.merge.first_row.Tie as tie
 

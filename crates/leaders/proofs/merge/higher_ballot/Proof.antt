@@ -1,7 +1,7 @@
 -- `leaders::merge::higher_ballot` meets its contract.
 use mathlib.Core.Path.{sym, _∙_}
 use Rattle.laws.specs.Lex.{larger}
-use Rattle.laws.specs.Choice.{pick-true, pick-false}
+use Rattle.laws.proofs.laws.Choice.{pick-true, pick-false}
 use borrow.Author.Needs.{needs}
 use Rattle.leaders.proofs.merge.higher_ballot.Statement.{statement}
 use Rattle.leaders.proofs.merge.higher_ballot.Tie as tie

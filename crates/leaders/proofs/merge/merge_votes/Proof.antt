@@ -2,7 +2,7 @@
 use mathlib.Core.Path.{_∙_}
 use borrow.Author.Tests.{le-ltb, lt-ltb}
 use Rattle.leaders.proofs.laws.Votes.{with-held}
-use Rattle.laws.specs.Choice.{pick-true, pick-false}
+use Rattle.laws.proofs.laws.Choice.{pick-true, pick-false}
 use borrow.Author.Needs.{needs}
 use Rattle.leaders.proofs.merge.merge_votes.Statement.{statement}
 use Rattle.leaders.proofs.merge.merge_votes.Tie as tie

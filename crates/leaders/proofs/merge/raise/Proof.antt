@@ -2,7 +2,7 @@
 use borrow.Author.Tests.{le-ltb, lt-ltb}
 use mathlib.Core.Path.{sym}
 use Rattle.boxes.specs.Box.{raised}
-use Rattle.laws.specs.Choice.{pick-true, pick-false}
+use Rattle.laws.proofs.laws.Choice.{pick-true, pick-false}
 use Rattle.leaders.proofs.merge.raise.Statement.{statement}
 use Rattle.leaders.proofs.merge.raise.Tie as tie
 

@@ -1,7 +1,7 @@
 -- `leaders::newleader_ack::votes_count` meets its contract.
 use mathlib.Core.Path.{sym}
 use Rattle.boxes.specs.NewleaderAck.{votesCount}
-use Rattle.laws.specs.Choice.{pick-true, pick-false}
+use Rattle.laws.proofs.laws.Choice.{pick-true, pick-false}
 use Rattle.leaders.proofs.newleader_ack.votes_count.Statement.{statement}
 use Rattle.leaders.proofs.newleader_ack.votes_count.Tie as tie
 

@@ -5,7 +5,7 @@ use Rattle.boxes.specs.NewleaderAck.{whenVoted}
 use Rattle.sending.proofs.laws.Sends.{encode-none}
 use Rattle.house.proofs.laws.Says.{plan-says}
 use Rattle.laws.proofs.laws.Tray.{onto-nil}
-use Rattle.laws.specs.Choice.{pick-true, pick-false}
+use Rattle.laws.proofs.laws.Choice.{pick-true, pick-false}
 use mathlib.Core.Path.{_≡_, sym, _∙_}
 use borrow.Author.Needs.{needs}
 use Rattle.leaders.proofs.newleader_ack.when_voted.Statement.{statement}

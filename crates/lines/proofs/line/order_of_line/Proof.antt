@@ -3,7 +3,7 @@ use Rattle.lines.specs.Orders.{orderOfWords, orderOfLine}
 use Rattle.lines.proofs.laws.ReadLaws.{line-read}
 use Rattle.lines.proofs.laws.PartLaws.{words-cut, words-whole}
 use Rattle.laws.proofs.laws.Tray.{rest-of}
-use Rattle.laws.specs.Choice.{pick-true, pick-false}
+use Rattle.laws.proofs.laws.Choice.{pick-true, pick-false}
 use borrow.Author.Tests.{lt-ltb, le-ltb}
 use native.Mathlib.Nat.{sub-zero}
 use Prim.Native.Nat.{_+_}

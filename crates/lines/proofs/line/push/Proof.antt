@@ -1,7 +1,7 @@
 -- `lines::line::push` meets its contract.
 use Rattle.lines.specs.Held.{pushed}
 use Rattle.lines.proofs.laws.ReadLaws.{byte-held}
-use Rattle.laws.specs.Choice.{pick-true, pick-false}
+use Rattle.laws.proofs.laws.Choice.{pick-true, pick-false}
 use borrow.Author.Tests.{lt-ltb, le-ltb}
 use mathlib.Core.Path.{sym}
 use borrow.Author.Needs.{needs}

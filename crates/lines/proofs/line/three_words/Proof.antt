@@ -2,7 +2,7 @@
 use Rattle.lines.proofs.laws.OrderLaws.{four-words}
 use Rattle.lines.specs.Orders.{orderOfWords}
 use Rattle.lines.proofs.laws.PartLaws.{words-cut, words-whole}
-use Rattle.laws.specs.Choice.{pick-true, pick-false, and-left, and-right}
+use Rattle.laws.proofs.laws.Choice.{pick-true, pick-false, and-left, and-right}
 use Prim.Native.Nat.{ℕ}
 use mathlib.Core.Path.{sym, ap, _∙_}
 use mathlib.Core.List.{List, _∷_}

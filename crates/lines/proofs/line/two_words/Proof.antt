@@ -1,6 +1,6 @@
 -- `lines::line::two_words` meets its contract.
 use Rattle.lines.specs.Orders.{orderOfWords}
-use Rattle.laws.specs.Choice.{pick-true, pick-false}
+use Rattle.laws.proofs.laws.Choice.{pick-true, pick-false}
 use mathlib.Core.Path.{sym, _∙_}
 use borrow.Author.Needs.{needs}
 use Rattle.lines.proofs.line.two_words.Statement.{statement}

@@ -1,5 +1,5 @@
 -- `lines::words::digit` meets its contract.
-use Rattle.laws.specs.Choice.{and-left, and-right}
+use Rattle.laws.proofs.laws.Choice.{and-left, and-right}
 use borrow.Author.Tests.{leb-true}
 use lib.Dec.{leb}
 use Prim.Native.Nat.{_≤_}

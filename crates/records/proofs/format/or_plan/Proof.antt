@@ -1,7 +1,7 @@
 -- `records::format::or_plan` meets its contract.
 use mathlib.Core.Path.{sym}
 use borrow.Author.Tests.{eq-eqb, ne-eqb}
-use Rattle.laws.specs.Choice.{pick-true, pick-false}
+use Rattle.laws.proofs.laws.Choice.{pick-true, pick-false}
 use Rattle.records.specs.Format.{orPlan}
 use Rattle.records.proofs.format.or_plan.Statement.{statement}
 use Rattle.records.proofs.format.or_plan.Tie as tie

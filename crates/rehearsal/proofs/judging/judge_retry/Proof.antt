@@ -8,7 +8,7 @@ use Rattle.steps.proofs.laws.Orders.{retries-sent}
 use Rattle.records.specs.Answers.{notSound}
 use Rattle.house.specs.Plan.{isJob}
 use Rattle.house.proofs.laws.Says.{plan-says}
-use Rattle.laws.specs.Choice.{and-right}
+use Rattle.laws.proofs.laws.Choice.{and-right}
 use borrow.Author.Tests.{ltb-true}
 use native.Mathlib.Omega.{arith}
 use lib.Dec.{ltb}

@@ -3,7 +3,7 @@ use Rattle.rehearsal.specs.Night.{mostBoxes, freshNight}
 use Rattle.boxes.specs.Box.{fresh}
 use Rattle.boxes.specs.declared.BoxState.{BoxState}
 use Rattle.house.specs.Pairs.{boxNo}
-use Rattle.laws.specs.Codec.{fill-step}
+use Rattle.laws.proofs.laws.Codec.{fill-step}
 use Rattle.laws.specs.Fold.{upto}
 use Rattle.laws.proofs.laws.Fold.{upto-step}
 use lib.ListN.{length, length-append, replicate}

@@ -1,5 +1,5 @@
 -- `rehearse::printing::in_order` meets its contract.
-use Rattle.laws.specs.Choice.{pick-true, pick-false}
+use Rattle.laws.proofs.laws.Choice.{pick-true, pick-false}
 use mathlib.Core.Path.{sym, _∙_}
 use Rattle.rehearse.proofs.printing.in_order.Statement.{statement}
 use Rattle.rehearse.proofs.printing.in_order.Tie as tie

@@ -1,6 +1,6 @@
 -- `report::text::put_either` meets its contract.
 use Rattle.laws.specs.Tray.{onto}
-use Rattle.laws.specs.Choice.{pick-true, pick-false}
+use Rattle.laws.proofs.laws.Choice.{pick-true, pick-false}
 use lib.ListN.{length}
 use Prim.Native.Nat.{ℕ}
 use mathlib.Core.Path.{sym, ap, _∙_}

@@ -1,6 +1,6 @@
 -- `rules::parties::ballot_for` meets its contract.
 use mathlib.Core.Path.{sym, _∙_}
-use Rattle.laws.specs.Choice.{pick-true, pick-false}
+use Rattle.laws.proofs.laws.Choice.{pick-true, pick-false}
 use Rattle.records.specs.Rules.{ballotFor}
 use borrow.Author.Needs.{needs}
 use Rattle.rules.proofs.parties.ballot_for.Statement.{statement}

@@ -1,6 +1,6 @@
 -- `sending::draft::kept_for` meets its contract.
 use mathlib.Core.Path.{sym, _∙_}
-use Rattle.laws.specs.Choice.{pick-true, pick-false}
+use Rattle.laws.proofs.laws.Choice.{pick-true, pick-false}
 use Rattle.boxes.specs.Accept.{keptFor}
 use borrow.Author.Needs.{needs}
 use Rattle.sending.proofs.draft.kept_for.Statement.{statement}

@@ -1,7 +1,7 @@
 -- `session::draw::as_byte` meets its contract.
 use Rattle.session.specs.Desk.{capped}
 use borrow.Author.Tests.{le-leb, lt-leb}
-use Rattle.laws.specs.Choice.{pick-true, pick-false}
+use Rattle.laws.proofs.laws.Choice.{pick-true, pick-false}
 use mathlib.Core.Path.{sym}
 use borrow.Author.Needs.{needs}
 use Rattle.session.proofs.draw.as_byte.Statement.{statement}

@@ -2,7 +2,7 @@
 use Rattle.house.specs.declared.Plan.{Plan}
 use Rattle.session.specs.Desk.{oneJob}
 use borrow.Author.Tests.{le-leb, lt-leb}
-use Rattle.laws.specs.Choice.{pick-true, pick-false}
+use Rattle.laws.proofs.laws.Choice.{pick-true, pick-false}
 use mathlib.Core.Path.{sym, ap}
 use borrow.Author.Needs.{needs}
 use Rattle.session.proofs.draw.with_job.Statement.{statement}

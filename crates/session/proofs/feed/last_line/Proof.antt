@@ -4,7 +4,7 @@ use Rattle.session.proofs.laws.Promises.{leaves-as}
 use Rattle.session.proofs.laws.Asked.{byte-ends}
 use Rattle.lines.specs.Parts.{lineFeed}
 use Rattle.laws.proofs.laws.Tray.{onto-nil}
-use Rattle.laws.specs.Choice.{pick-true, pick-false}
+use Rattle.laws.proofs.laws.Choice.{pick-true, pick-false}
 use borrow.Author.Tests.{eq-eqb, ne-eqb}
 use mathlib.Core.List.{[], _∷_}
 use mathlib.Core.Path.{_≡_, refl, sym, _∙_}

@@ -1,7 +1,7 @@
 -- `session::hear::hear_plan` meets its contract.
 use Rattle.session.proofs.laws.Hears.{plain-as}
 use Rattle.session.specs.Heard.{planLine}
-use Rattle.laws.specs.Choice.{pick-true, pick-false}
+use Rattle.laws.proofs.laws.Choice.{pick-true, pick-false}
 use Rattle.laws.proofs.laws.Tray.{onto-nil}
 use mathlib.Core.List.{[]}
 use mathlib.Core.Path.{refl, sym}

@@ -1,6 +1,6 @@
 -- `soundness::core::place_sound` meets its contract.
 use Rattle.soundness.specs.Lists.{placeSound, noEntry}
-use Rattle.laws.specs.Choice.{pick-true, pick-false}
+use Rattle.laws.proofs.laws.Choice.{pick-true, pick-false}
 use mathlib.Core.Path.{sym, _∙_}
 use borrow.Author.Needs.{needs}
 use Rattle.soundness.proofs.core.place_sound.Statement.{statement}

@@ -1,6 +1,6 @@
 -- `soundness::volatile::vote_sound` meets its contract.
 use Rattle.boxes.specs.Sound.{voteSound, heldSound, paperOf}
-use Rattle.laws.specs.Choice.{pick-true, pick-false}
+use Rattle.laws.proofs.laws.Choice.{pick-true, pick-false}
 use mathlib.Core.Path.{sym, _∙_}
 use borrow.Author.Needs.{needs}
 use Rattle.soundness.proofs.volatile.vote_sound.Statement.{statement}
