@@ -1,4 +1,5 @@
--- Laws of what specs/OneOrder.antt defines.
+-- The regulator's sentence from the statements of demand 3 alone: any two boxes hold the jobs they both have in one order.
+-- A job has one final stamp, it stands with it on each list, and lists rise.
 use Prim.Native.Nat.{ℕ, _<_}
 use mathlib.Core.List.{List, [], _++_}
 use mathlib.Core.Path.{_≡_, refl, sym, ap, subst, _∙_}
@@ -15,9 +16,12 @@ use Rattle.in_order.specs.Words.{after, FinalStamp, Rises, Once, SameOrd
 use Rattle.in_order.specs.Demand3.{OneStamp, ListRises, ListOnce, ListFinal, Demand3, OneOrder}
 use Rattle.in_order.proofs.laws.Compare.{Sooner, lt-lt, lt-self}
 use Rattle.in_order.proofs.laws.CoreFinal.{final-now, final-later}
-use Rattle.in_order.specs.OneOrder.{Agree}
 
 -- ---- two lists
+
+-- a job on both lists has one stamp there
+pub record Agree (x y : BoxState) : Type 0 where
+  pub says : (i k : ℕ) → i < x .core .count → k < y .core .count → listedAt x i .job ≡ listedAt y k .job → listedAt x i .stamp ≡ listedAt y k .stamp
 
 -- two places of a list that rises have two stamps, the earlier the smaller
 rises-at : {x : BoxState} → Rises x → (k i : ℕ) → k < i → i < x .core .count → Sooner (listedAt x k .stamp) (listedAt x i .stamp)

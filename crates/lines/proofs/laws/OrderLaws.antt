@@ -1,4 +1,4 @@
--- Laws of what specs/OrderLaws.antt defines.
+-- The orders of an input: none of an empty one, one more behind each LF, and one of a last line without LF.
 use Prim.Native.Nat.{ℕ, _+_, _≤_}
 use mathlib.Core.Bool.{true, _&&_}
 use mathlib.Core.List.{List, [], _∷_, _++_, map, append-assoc}

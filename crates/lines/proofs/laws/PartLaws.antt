@@ -1,4 +1,4 @@
--- Laws of what specs/PartLaws.antt defines.
+-- A text in parts: what comes before the first byte that parts it, and a text that has none.
 use Prim.Native.Nat.{ℕ, zero, suc, _+_, _<_, _≤_}
 use mathlib.Core.Bool.{Bool, true, false, not, _&&_}
 use mathlib.Core.List.{List, [], _∷_, _++_}
