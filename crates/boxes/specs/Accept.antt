@@ -15,7 +15,8 @@ use Rattle.house.specs.Plan.{homeOf, names}
 use Rattle.house.specs.declared.Plan.{Plan}
 use Rattle.house.specs.Marks.{noMarks}
 use Rattle.records.specs.Answers.{notNamed, wrongStatus, wrongBallot, orNo}
-use Rattle.records.specs.Rec.{Rec, Proposal, accept-ack}
+use Rattle.records.specs.Rec.{Rec, accept-ack}
+use Rattle.records.specs.declared.Proposal.{Proposal}
 use Rattle.records.specs.declared.Answer.{Answer}
 use Rattle.records.specs.declared.Answer.the-variants.{Done}
 use Rattle.boxes.specs.Box.{isRecovering, ownOf, homeIn, rowAt, keptBallot, keptStamp, marksAt, putRow, putKept, raised}
@@ -67,10 +68,13 @@ keptFor P x j d = pick (names P j (district d)) (keptBallot x j (district d)) no
 unfoldable pub keptVector : Plan → BoxState → ℕ → List Ballot
 keptVector P x j = keptFor P x j 0 ∷ keptFor P x j 1 ∷ keptFor P x j 2 ∷ keptFor P x j 3 ∷ []
 
+-- p is the box of the ballot kept for its district
+unfoldable pub keptLeader : Plan → BoxState → ℕ → BoxNo → Bool
+keptLeader P x j p = names P j (homeOf P p) && eqb (keptBallot x j (homeOf P p) .owner .0) (p .0)
+
 -- kind 3 to each kept ballot's box (lines 15-16)
 unfoldable pub acks : Plan → BoxState → ℕ → List Rec
-acks P x j =
-    toEach P (λ p. names P j (homeOf P p) && eqb (keptBallot x j (homeOf P p) .owner .0) (p .0)) (λ to. accept-ack (ownOf x) to j (keptVector P x j))
+acks P x j = toEach P (keptLeader P x j) (λ to. accept-ack (ownOf x) to j (keptVector P x j))
 
 unfoldable pub whenKept : Plan → BoxState → ℕ → Out
 whenKept P x j = pick (allKept P x j) (does (accepted P x j) (acks P (accepted P x j) j) Nothing) (does x [] Nothing)

@@ -3,12 +3,10 @@ use Prim.Native.Nat.{ℕ}
 use mathlib.Core.Bool.{not, _&&_}
 use mathlib.Core.List.{[]}
 use Rattle.house.specs.Pairs.{stampLt, sameBallot}
-use Rattle.house.specs.declared.Stamp.{Stamp}
-use Rattle.house.specs.declared.Ballot.{Ballot}
 use Rattle.house.specs.Plan.{names}
 use Rattle.house.specs.declared.Plan.{Plan}
 use Rattle.records.specs.Answers.{notNamed, wrongStatus, wrongBallot, alreadyDone, orNo}
-use Rattle.records.specs.Rec.{Handout}
+use Rattle.records.specs.declared.Handout.{Handout}
 use Rattle.records.specs.declared.Answer.{Answer}
 use Rattle.records.specs.declared.Answer.the-variants.{Done}
 use Rattle.boxes.specs.Box.{isRecovering, homeIn, lastStamp, onList, putRow, putListed, raised}
@@ -22,15 +20,15 @@ delivered x j y =
     putListed (putRow x (raised (x .core .clock) (y .global .time)) j (record { phase = 3; local = y .local; global = y .global })) j (y .global)
 
 -- what it is answered
-abbrev pub deliverAnswer : Plan → BoxState → ℕ → Ballot → Stamp → Answer
-deliverAnswer P x j b global =
+abbrev pub deliverAnswer : Plan → BoxState → ℕ → Handout → Answer
+deliverAnswer P x j y =
     orNo (names P j (homeIn P x)) notNamed
     -- not recovering, ballot is cballot (line 25)
     (orNo (not (isRecovering (x .core .status))) wrongStatus
-    (orNo (sameBallot b (x .core .cballot)) wrongBallot
+    (orNo (sameBallot (y .ballot) (x .core .cballot)) wrongBallot
     -- stamp above the last delivered and job not on the list
-    (orNo (stampLt (lastStamp x) global && not (onList x j)) alreadyDone
+    (orNo (stampLt (lastStamp x) (y .global) && not (onList x j)) alreadyDone
     Done)))
 
 unfoldable pub onDeliver : Plan → BoxState → ℕ → Handout → Out
-onDeliver P x j y = under (deliverAnswer P x j (y .ballot) (y .global)) (does (delivered x j y) [] (Job j))
+onDeliver P x j y = under (deliverAnswer P x j y) (does (delivered x j y) [] (Job j))

@@ -4,7 +4,8 @@ use Rattle.house.specs.Pairs.{sameBallot}
 use Rattle.house.specs.declared.Ballot.{Ballot}
 use Rattle.house.specs.declared.BoxNo.{BoxNo}
 use Rattle.records.specs.Answers.{wrongStatus, wrongBallot, orNo}
-use Rattle.records.specs.Rec.{NewState, newstate-ack}
+use Rattle.records.specs.Rec.{newstate-ack}
+use Rattle.records.specs.declared.NewState.{NewState}
 use Rattle.records.specs.declared.Answer.{Answer}
 use Rattle.records.specs.declared.Answer.the-variants.{Done}
 use Rattle.boxes.specs.Box.{isRecovering, ownOf, putMode, putTable}

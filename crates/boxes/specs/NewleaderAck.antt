@@ -10,7 +10,8 @@ use Rattle.house.specs.declared.BoxNo.{BoxNo}
 use Rattle.house.specs.Plan.{quorumOf}
 use Rattle.house.specs.declared.Plan.{Plan}
 use Rattle.records.specs.Answers.{wrongStatus, wrongBallot, alreadyDone, orNo}
-use Rattle.records.specs.Rec.{Rec, Ballotpaper, new-state}
+use Rattle.records.specs.Rec.{Rec, new-state}
+use Rattle.records.specs.declared.Ballotpaper.{Ballotpaper}
 use Rattle.records.specs.declared.Answer.{Answer}
 use Rattle.records.specs.declared.Answer.the-variants.{Done}
 use Rattle.boxes.specs.Box.{isRecovering, ownOf, putVote}

@@ -41,8 +41,11 @@ recordsOf (refused n) = []
 recordsOf (does x l d) = l
 
 -- what the code answers: the same box, 0 bytes and no delivery for a refusal
+abbrev pub refusal : BoxState → ℕ → Outcome
+refusal x n = record { answer = No n; used = 0; records = 0; state = x; delivery = Nothing }
+
 abbrev pub resultOf : Plan → BoxState → Out → Outcome
-resultOf P x (refused n) = record { answer = No n; used = 0; records = 0; state = x; delivery = Nothing }
+resultOf P x (refused n) = refusal x n
 resultOf P x (does y l d) = record { answer = Done; used = length (encodeAll P l); records = length l; state = y; delivery = d }
 
 -- a record to each box that is meant, by rising box number

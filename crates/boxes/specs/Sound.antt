@@ -10,7 +10,8 @@ use Rattle.house.specs.declared.District.{District}
 use Rattle.house.specs.Plan.{boxesOf, isBox, isJob, homeOf, names, ballotIn, noneOrIn, stampNamed, planSound}
 use Rattle.house.specs.declared.Plan.{Plan}
 use Rattle.house.specs.Marks.{marksIn}
-use Rattle.records.specs.Rec.{Ballotpaper, newleader-ack}
+use Rattle.records.specs.Rec.{newleader-ack}
+use Rattle.records.specs.declared.Ballotpaper.{Ballotpaper}
 use Rattle.records.specs.Rules.{rules, rowsSound, spareRows}
 use Rattle.boxes.specs.Box.{isLeader, isRecovering, homeIn, ownOf, sentAt, listedAt, keptBallot, keptStamp, marksAt}
 use Rattle.boxes.specs.declared.BoxState.{BoxState}

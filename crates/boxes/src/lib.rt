@@ -3,6 +3,7 @@
 mod change;
 mod fresh;
 mod look;
+mod outcomes;
 
 pub use change::put_kept;
 pub use change::put_listed;
@@ -29,7 +30,10 @@ pub use look::last_stamp;
 pub use look::listed_at;
 pub use look::marks_at;
 pub use look::on_list;
+pub use look::raise;
 pub use look::row_at;
+pub use outcomes::done;
+pub use outcomes::refused;
 use records::Answer;
 
 pub enum Status {

@@ -1,7 +1,7 @@
 // One thing looked up in a box: a row, a flag, marks, a kept ACCEPT, a place of the list.
 // What each function means stands in specs/Box.antt.
 ghost use mathlib.Core.Path.{_≡_};
-ghost use Rattle.boxes.specs.Box.{homeIn, rowAt, sentAt, listedAt, lastStamp, onList, keptBallot, keptStamp, marksAt, isLeader, isRecovering};
+ghost use Rattle.boxes.specs.Box.{homeIn, rowAt, sentAt, listedAt, lastStamp, onList, keptBallot, keptStamp, marksAt, isLeader, isRecovering, raised};
 ghost use Rattle.boxes.specs.Out.{inOrder};
 use crate::BoxState;
 use crate::Listed;
@@ -53,6 +53,16 @@ pub fn is_recovering(s: Status) -> bool
         Status::Leader => false,
         Status::Recovering => true,
     }
+}
+
+// the clock raised to a time
+pub fn raise(clock: u32, time: u32) -> u32
+    ensures { λ r. ⌜ r ≡ raised clock time ⌝ }
+{
+    if clock < time {
+        return time;
+    }
+    clock
 }
 
 // the own district

@@ -1,12 +1,11 @@
 // The public face of a box: fresh, receive, post, retry, stand, cut. Each judges first, over the box as it is, and answers for every input.
 // The promises stand in specs/Promises.antt, what each does in specs/Step.antt of boxes.
 ghost use mathlib.Core.Path.{_≡_};
-ghost use lib.ListN.{length};
 ghost use Rattle.boxes.specs.Sound.{sound};
 ghost use Rattle.boxes.specs.Retry.{retries};
 ghost use Rattle.boxes.specs.Stand.{standing};
 ghost use Rattle.boxes.specs.Step.{mayPost, retried, stood};
-ghost use Rattle.collector.specs.Face.{admission, refusal, unlessNo, Allowed, Numbering, Answering, Written};
+ghost use Rattle.collector.specs.Face.{admission, Numbering, Answering};
 ghost use Rattle.collector.specs.Promises.{BoxFresh, BytesReceived, JobRetried, BoxStood, BoxCut, JobPosted};
 use boxes::BoxState;
 use boxes::Delivery;
@@ -14,7 +13,6 @@ use boxes::Outcome;
 use house::BoxNo;
 use house::Plan;
 use records::Answer;
-use sending::Sent;
 
 // what a post answers: it has no box
 pub struct Posted {
@@ -43,19 +41,6 @@ fn admit(known: bool, room: usize) -> Answer
     Answer::Done
 }
 
-// a refusal: the same box, 0 bytes, no delivery
-fn refused(x: BoxState, n: u8) -> Outcome
-    ensures { λ o. ⌜ o ≡ refusal x n ⌝ }
-{
-    Outcome {
-        state: x,
-        used: 0,
-        records: 0,
-        answer: Answer::No(n),
-        delivery: Delivery::Nothing,
-    }
-}
-
 // a record's bytes from outside
 pub fn receive(plan: Plan, x: BoxState, bytes: &[u8], tray: &mut [u8]) -> Outcome
     ensures { λ o. ⌜ BytesReceived plan x (now (bytes .entry)) (now (tray .entry)) o (now (tray .exit)) ⌝ }
@@ -63,14 +48,14 @@ pub fn receive(plan: Plan, x: BoxState, bytes: &[u8], tray: &mut [u8]) -> Outcom
     let known = soundness::is_sound(plan, x);
     let first = admit(known, tray.len());
     if let Answer::No(n) = first {
-        return refused(x, n);
+        return boxes::refused(x, n);
     }
     let got = reader::read_bytes(plan, bytes);
     let read = got.answer;
     let r = got.rec;
     let answer = steps::judge_read(plan, x, read, r);
     if let Answer::No(n) = answer {
-        return refused(x, n);
+        return boxes::refused(x, n);
     }
     steps::act(plan, x, r, tray)
 }
@@ -87,39 +72,16 @@ fn judge_retry(plan: Plan, known: bool, x: BoxState, job: u8, room: usize) -> An
     jobs::decide_retry(plan, x, job)
 }
 
-// the records of a retry that is not refused
-fn send_retry(plan: Plan, x: BoxState, job: u8, answer: Answer, tray: &mut [u8]) -> Sent
-    requires { ⌜ Allowed plan (length (now tray)) answer ⌝ }
-    ensures { λ s. ⌜ Written plan (unlessNo answer (retries plan x job)) (now (tray .entry)) s (now (tray .exit)) ⌝ }
-{
-    match answer {
-        Answer::No(_) => Sent {
-            used: 0,
-            records: 0,
-        },
-        Answer::Done => {
-            let c = x.core;
-            let own = c.own;
-            let r = sending::multicast_record(own, own, job);
-            sending::send(tray, plan, r)
-        }
-    }
-}
-
 // a box sends the job's MULTICAST again
 pub fn retry_job(plan: Plan, x: BoxState, job: u8, tray: &mut [u8]) -> Outcome
     ensures { λ o. ⌜ JobRetried plan x job (now (tray .entry)) o (now (tray .exit)) ⌝ }
 {
     let known = soundness::is_sound(plan, x);
     let answer = judge_retry(plan, known, x, job, tray.len());
-    let s = send_retry(plan, x, job, answer, tray);
-    Outcome {
-        state: x,
-        used: s.used,
-        records: s.records,
-        answer: answer,
-        delivery: Delivery::Nothing,
+    if let Answer::No(n) = answer {
+        return boxes::refused(x, n);
     }
+    jobs::do_retry(plan, x, job, tray)
 }
 
 // the answer to an order to stand: 1, 2, then its own test
@@ -134,39 +96,16 @@ fn judge_stand(plan: Plan, known: bool, x: BoxState, room: usize) -> Answer
     leaders::decide_stand(x)
 }
 
-// the records of a box that stands and is not refused
-fn send_stand(plan: Plan, x: BoxState, answer: Answer, tray: &mut [u8]) -> Sent
-    requires { ⌜ Allowed plan (length (now tray)) answer × Numbering x answer ⌝ }
-    ensures { λ s. ⌜ Written plan (unlessNo answer (standing plan x)) (now (tray .entry)) s (now (tray .exit)) ⌝ }
-{
-    match answer {
-        Answer::No(_) => Sent {
-            used: 0,
-            records: 0,
-        },
-        Answer::Done => {
-            let c = x.core;
-            let own = c.own;
-            let r = sending::stand_record(x, own);
-            sending::send(tray, plan, r)
-        }
-    }
-}
-
 // a box stands for leader of its district
 pub fn stand_up(plan: Plan, x: BoxState, tray: &mut [u8]) -> Outcome
     ensures { λ o. ⌜ BoxStood plan x (now (tray .entry)) o (now (tray .exit)) ⌝ }
 {
     let known = soundness::is_sound(plan, x);
     let answer = judge_stand(plan, known, x, tray.len());
-    let s = send_stand(plan, x, answer, tray);
-    Outcome {
-        state: x,
-        used: s.used,
-        records: s.records,
-        answer: answer,
-        delivery: Delivery::Nothing,
+    if let Answer::No(n) = answer {
+        return boxes::refused(x, n);
     }
+    leaders::do_stand(plan, x, tray)
 }
 
 // a box loses power: it forgets its volatile part
@@ -174,16 +113,10 @@ pub fn cut_off(plan: Plan, x: BoxState) -> Outcome
     ensures { λ o. ⌜ BoxCut plan x o ⌝ }
 {
     if soundness::is_sound(plan, x) {} else {
-        return refused(x, records::NOT_SOUND);
+        return boxes::refused(x, records::NOT_SOUND);
     }
     let y = boxes::cut_box(x);
-    Outcome {
-        state: y,
-        used: 0,
-        records: 0,
-        answer: Answer::Done,
-        delivery: Delivery::Nothing,
-    }
+    boxes::done(y, 0, 0, Delivery::Nothing)
 }
 
 fn may_post(plan: Plan, job: u8, room: usize) -> Answer
@@ -213,9 +146,7 @@ pub fn post_job(plan: Plan, job: u8, tray: &mut [u8]) -> Posted
             records: 0,
         },
         Answer::Done => {
-            let office = house::office_of(plan);
-            let r = sending::multicast_record(office, office, job);
-            let s = sending::send(tray, plan, r);
+            let s = jobs::do_post(plan, job, tray);
             Posted {
                 answer: Answer::Done,
                 used: s.used,

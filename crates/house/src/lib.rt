@@ -6,10 +6,14 @@ mod plans;
 mod sound_plans;
 
 pub use marks::has_mark;
+pub use marks::home_boxes;
 pub use marks::mark;
+pub use marks::mark_if;
 pub use marks::marks_in;
+pub use marks::named_boxes;
 pub use marks::no_marks;
 pub use marks::only_boxes;
+pub use marks::other_boxes;
 pub use marks::quorum_each;
 pub use pairs::ballot_below;
 pub use pairs::ballot_of;

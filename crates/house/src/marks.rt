@@ -1,7 +1,10 @@
 // Marks: one bit for each box, and whether those of a district are a quorum.
 // What each function means stands in specs/Marks.antt.
 ghost use mathlib.Core.Path.{_≡_};
-ghost use Rattle.house.specs.Marks.{noMarks, hasMark, marked, marksIn, onlyBoxes, quorumIn, quorumEach};
+ghost use mathlib.Core.Bool.{true};
+ghost use Rattle.laws.specs.Choice.{pick};
+ghost use Rattle.house.specs.Plan.{planSound};
+ghost use Rattle.house.specs.Marks.{noMarks, hasMark, marked, namedBoxes, homeBoxes, otherBoxes, marksIn, onlyBoxes, quorumIn, quorumEach};
 use crate::BoxNo;
 use crate::District;
 use crate::Plan;
@@ -29,6 +32,62 @@ pub fn mark(marks: u32, p: BoxNo) -> u32
 {
     if p.0 < MOST_MARKS {
         return marks | (1u32 << p.0);
+    }
+    marks
+}
+
+// one box more, if it is meant
+pub fn mark_if(meant: bool, marks: u32, p: BoxNo) -> u32
+    ensures { λ r. ⌜ r ≡ pick meant (marked marks p) marks ⌝ }
+{
+    if meant {
+        return mark(marks, p);
+    }
+    marks
+}
+
+// all boxes of the districts that a job names
+pub fn named_boxes(plan: Plan, job: u8) -> u32
+    requires { ⌜ planSound plan ≡ true ⌝ }
+    ensures { λ r. ⌜ r ≡ namedBoxes plan job ⌝ }
+{
+    let n = plans::boxes_of(plan);
+    let mut marks = no_marks();
+    for p in 0..n {
+        let to = BoxNo(p as u8);
+        let home = plans::home_of(plan, to);
+        let meant = plans::named(plan, job, home);
+        marks = mark_if(meant, marks, to);
+    }
+    marks
+}
+
+// the boxes of a box's own district
+pub fn home_boxes(plan: Plan, own: BoxNo) -> u32
+    requires { ⌜ planSound plan ≡ true ⌝ }
+    ensures { λ r. ⌜ r ≡ homeBoxes plan own ⌝ }
+{
+    let n = plans::boxes_of(plan);
+    let mut marks = no_marks();
+    for p in 0..n {
+        let to = BoxNo(p as u8);
+        let meant = plans::same_home(plan, to, own);
+        marks = mark_if(meant, marks, to);
+    }
+    marks
+}
+
+// the other boxes of its district
+pub fn other_boxes(plan: Plan, own: BoxNo) -> u32
+    requires { ⌜ planSound plan ≡ true ⌝ }
+    ensures { λ r. ⌜ r ≡ otherBoxes plan own ⌝ }
+{
+    let n = plans::boxes_of(plan);
+    let mut marks = no_marks();
+    for p in 0..n {
+        let to = BoxNo(p as u8);
+        let meant = plans::same_home(plan, to, own) & !(to.0 == own.0);
+        marks = mark_if(meant, marks, to);
     }
     marks
 }

@@ -12,7 +12,8 @@ use Rattle.house.specs.declared.Ballot.{Ballot}
 use Rattle.house.specs.declared.BoxNo.{BoxNo}
 use Rattle.house.specs.Plan.{boxesOf, homeOf}
 use Rattle.house.specs.declared.Plan.{Plan}
-use Rattle.records.specs.Rec.{Rec, Handout, deliver}
+use Rattle.records.specs.Rec.{Rec, deliver}
+use Rattle.records.specs.declared.Handout.{Handout}
 use Rattle.boxes.specs.Box.{rowAt, listedAt}
 use Rattle.boxes.specs.declared.BoxState.{BoxState}
 use Rattle.boxes.specs.declared.Delivery.{Delivery}

@@ -3,11 +3,11 @@
 ghost use mathlib.Core.Path.{_≡_};
 ghost use Prim.Native.Nat.{_<_, _≤_};
 ghost use Rattle.laws.specs.Choice.{pick};
-ghost use Rattle.house.specs.Marks.{noMarks};
-ghost use Rattle.boxes.specs.Accept.{ballotFits, stampFits, sameKept, kept, keptBelow, allKept, latestKept, acceptedRow, accepted, whenKept, onAccept, acceptAnswer};
-ghost use Rattle.boxes.specs.Box.{raised, keptStamp};
+ghost use Rattle.house.specs.Marks.{noMarks, marksOf};
+ghost use Rattle.boxes.specs.Accept.{ballotFits, stampFits, sameKept, kept, keptBelow, allKept, latestKept, acceptedRow, accepted, keptLeader, whenKept, onAccept, acceptAnswer};
+ghost use Rattle.boxes.specs.Box.{keptStamp};
 ghost use Rattle.house.specs.Pairs.{laterStamp};
-ghost use Rattle.house.specs.Plan.{names, homeOf, planSound};
+ghost use Rattle.house.specs.Plan.{boxesOf, names, homeOf, planSound};
 ghost use mathlib.Core.Bool.{true};
 ghost use lib.ListN.{length};
 ghost use Rattle.laws.specs.Tray.{onto};
@@ -16,19 +16,20 @@ ghost use Rattle.boxes.specs.Out.{resultOf, recordsOf};
 use boxes::BoxState;
 use boxes::Delivery;
 use boxes::Outcome;
-use house::Ballot;
 use house::BoxNo;
 use house::District;
 use house::Plan;
 use house::Row;
 use house::Stamp;
 use records::Answer;
+use records::Proposal;
 
 // 2 ACCEPT: the own district's ballot must be cballot, another's not below the kept one
-fn ballot_fits(plan: Plan, x: BoxState, job: u8, d: District, b: Ballot, s: Stamp) -> bool
-    ensures { λ r. ⌜ r ≡ ballotFits plan x job d (record { ballot = b; stamp = s }) ⌝ }
+fn ballot_fits(plan: Plan, x: BoxState, job: u8, d: District, y: Proposal) -> bool
+    ensures { λ r. ⌜ r ≡ ballotFits plan x job d y ⌝ }
 {
     let home = boxes::home_in(plan, x);
+    let b = y.ballot;
     if d.0 == home.0 {
         let c = x.core;
         let cb = c.cballot;
@@ -39,25 +40,29 @@ fn ballot_fits(plan: Plan, x: BoxState, job: u8, d: District, b: Ballot, s: Stam
 }
 
 // an equal ballot with another stamp is refused
-fn stamp_fits(x: BoxState, job: u8, d: District, b: Ballot, s: Stamp) -> bool
-    ensures { λ r. ⌜ r ≡ stampFits x job d (record { ballot = b; stamp = s }) ⌝ }
+fn stamp_fits(x: BoxState, job: u8, d: District, y: Proposal) -> bool
+    ensures { λ r. ⌜ r ≡ stampFits x job d y ⌝ }
 {
+    let b = y.ballot;
+    let s = y.stamp;
     let old = boxes::kept_ballot(x, job, d);
     let stamp = boxes::kept_stamp(x, job, d);
     !house::same_ballot(b, old) | house::same_stamp(s, stamp)
 }
 
 // the same ACCEPT is kept already
-fn same_kept(x: BoxState, job: u8, d: District, b: Ballot, s: Stamp) -> bool
-    ensures { λ r. ⌜ r ≡ sameKept x job d (record { ballot = b; stamp = s }) ⌝ }
+fn same_kept(x: BoxState, job: u8, d: District, y: Proposal) -> bool
+    ensures { λ r. ⌜ r ≡ sameKept x job d y ⌝ }
 {
+    let b = y.ballot;
+    let s = y.stamp;
     let old = boxes::kept_ballot(x, job, d);
     let stamp = boxes::kept_stamp(x, job, d);
     house::same_ballot(b, old) & house::same_stamp(s, stamp)
 }
 
-pub fn decide_accept(plan: Plan, x: BoxState, from: BoxNo, job: u8, b: Ballot, s: Stamp) -> Answer
-    ensures { λ r. ⌜ r ≡ acceptAnswer plan x from job (record { ballot = b; stamp = s }) ⌝ }
+pub fn decide_accept(plan: Plan, x: BoxState, from: BoxNo, job: u8, y: Proposal) -> Answer
+    ensures { λ r. ⌜ r ≡ acceptAnswer plan x from job y ⌝ }
 {
     let c = x.core;
     let status = c.status;
@@ -65,7 +70,7 @@ pub fn decide_accept(plan: Plan, x: BoxState, from: BoxNo, job: u8, b: Ballot, s
     let named = house::named(plan, job, home);
     let recovers = boxes::is_recovering(status);
     let d = house::home_of(plan, from);
-    let fits = ballot_fits(plan, x, job, d, b, s) & stamp_fits(x, job, d, b, s);
+    let fits = ballot_fits(plan, x, job, d, y) & stamp_fits(x, job, d, y);
     boxes::in_order(named, !recovers, fits, true, true)
 }
 
@@ -79,14 +84,16 @@ fn marks_after(same: bool, marks: u32) -> u32
     house::no_marks()
 }
 
-fn keep(x: BoxState, job: u8, d: District, b: Ballot, s: Stamp) -> BoxState
+fn keep(x: BoxState, job: u8, d: District, y: Proposal) -> BoxState
     requires { ⌜ (job < 64) × (d .0 < 4) ⌝ }
-    ensures { λ r. ⌜ r ≡ kept x job d (record { ballot = b; stamp = s }) ⌝ }
+    ensures { λ r. ⌜ r ≡ kept x job d y ⌝ }
 {
-    let same = same_kept(x, job, d, b, s);
+    let same = same_kept(x, job, d, y);
     let old = boxes::marks_at(x, job);
     let new = marks_after(same, old);
     let j = job as usize;
+    let b = y.ballot;
+    let s = y.stamp;
     boxes::put_kept(x, j, d, b, s, new)
 }
 
@@ -135,16 +142,6 @@ pub fn latest_kept(plan: Plan, x: BoxState, job: u8, n: u8) -> Stamp
     s
 }
 
-// the clock raised to a time
-pub fn raise(clock: u32, time: u32) -> u32
-    ensures { λ r. ⌜ r ≡ raised clock time ⌝ }
-{
-    if clock < time {
-        return time;
-    }
-    clock
-}
-
 // phase 0 or 1 becomes 2; unless phase 3, the own stamp is stored (H)
 fn row_accepted(row: Row, s: Stamp) -> Row
     ensures { λ r. ⌜ r ≡ acceptedRow row s ⌝ }
@@ -170,9 +167,27 @@ fn accept(plan: Plan, x: BoxState, job: u8) -> BoxState
     let row = boxes::row_at(x, job);
     let new = row_accepted(row, own);
     let latest = latest_kept(plan, x, job, plan.districts);
-    let clock = raise(c.clock, latest.time);
+    let clock = boxes::raise(c.clock, latest.time);
     let j = job as usize;
     boxes::put_row(x, clock, j, new)
+}
+
+// the boxes of the ballots kept for the named districts
+fn kept_leaders(plan: Plan, x: BoxState, job: u8) -> u32
+    requires { ⌜ planSound plan ≡ true ⌝ }
+    ensures { λ r. ⌜ r ≡ marksOf (keptLeader plan x job) (boxesOf plan) ⌝ }
+{
+    let n = house::boxes_of(plan);
+    let mut marks = house::no_marks();
+    for p in 0..n {
+        let to = BoxNo(p as u8);
+        let home = house::home_of(plan, to);
+        let b = boxes::kept_ballot(x, job, home);
+        let leader = b.owner;
+        let meant = house::named(plan, job, home) & (leader.0 == to.0);
+        marks = house::mark_if(meant, marks, to);
+    }
+    marks
 }
 
 // 2 ACCEPT, once it is kept
@@ -185,22 +200,10 @@ fn when_kept(plan: Plan, x: BoxState, job: u8, tray: &mut [u8]) -> Outcome
         let c = y.core;
         let own = c.own;
         let r = sending::ack_record(plan, y, own, job);
-        let s = sending::send(tray, plan, r);
-        return Outcome {
-            answer: Answer::Done,
-            used: s.used,
-            records: s.records,
-            state: y,
-            delivery: Delivery::Nothing,
-        };
+        let meant = kept_leaders(plan, y, job);
+        return sending::done_sending(plan, y, r, meant, tray);
     }
-    Outcome {
-        answer: Answer::Done,
-        used: 0,
-        records: 0,
-        state: x,
-        delivery: Delivery::Nothing,
-    }
+    boxes::done(x, 0, 0, Delivery::Nothing)
 }
 
 // 2 ACCEPT
@@ -209,14 +212,13 @@ pub fn do_accept(
     x: BoxState,
     from: BoxNo,
     job: u8,
-    b: Ballot,
-    s: Stamp,
+    y: Proposal,
     tray: &mut [u8],
 ) -> Outcome
-    requires { ⌜ (planSound plan ≡ true) × (job < 64) × (homeOf plan from .0 < 4) × (length (encodeAll plan (recordsOf (onAccept plan x from job (record { ballot = b; stamp = s })))) ≤ length (now tray)) × (acceptAnswer plan x from job (record { ballot = b; stamp = s }) ≡ Answer.Done) ⌝ }
-    ensures { λ r. ⌜ (r ≡ resultOf plan x (onAccept plan x from job (record { ballot = b; stamp = s }))) × (now (tray .exit) ≡ onto (encodeAll plan (recordsOf (onAccept plan x from job (record { ballot = b; stamp = s })))) (now (tray .entry))) ⌝ }
+    requires { ⌜ (planSound plan ≡ true) × (job < 64) × (homeOf plan from .0 < 4) × (length (encodeAll plan (recordsOf (onAccept plan x from job y))) ≤ length (now tray)) × (acceptAnswer plan x from job y ≡ Answer.Done) ⌝ }
+    ensures { λ r. ⌜ (r ≡ resultOf plan x (onAccept plan x from job y)) × (now (tray .exit) ≡ onto (encodeAll plan (recordsOf (onAccept plan x from job y))) (now (tray .entry))) ⌝ }
 {
     let d = house::home_of(plan, from);
-    let y = keep(x, job, d, b, s);
-    when_kept(plan, y, job, tray)
+    let z = keep(x, job, d, y);
+    when_kept(plan, z, job, tray)
 }

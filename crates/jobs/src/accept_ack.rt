@@ -116,21 +116,9 @@ fn when_marked(plan: Plan, x: BoxState, job: u8, tray: &mut [u8]) -> Outcome
         let h = sending::hand_out(tray, plan, c);
         let sent = h.sent;
         let z = boxes::put_sent(y, sent);
-        return Outcome {
-            answer: Answer::Done,
-            used: h.used,
-            records: h.records,
-            state: z,
-            delivery: Delivery::Nothing,
-        };
+        return boxes::done(z, h.used, h.records, Delivery::Nothing);
     }
-    Outcome {
-        answer: Answer::Done,
-        used: 0,
-        records: 0,
-        state: x,
-        delivery: Delivery::Nothing,
-    }
+    boxes::done(x, 0, 0, Delivery::Nothing)
 }
 
 // 3 ACCEPT_ACK

@@ -4,19 +4,17 @@ ghost use mathlib.Core.Path.{_≡_};
 ghost use Prim.Native.Nat.{_<_};
 ghost use Rattle.boxes.specs.Deliver.{delivered, onDeliver, deliverAnswer};
 ghost use Rattle.boxes.specs.Out.{resultOf};
-use crate::accept;
 use boxes::BoxState;
 use boxes::Delivery;
 use boxes::Outcome;
-use house::Ballot;
 use house::Plan;
 use house::Row;
-use house::Stamp;
 use records::Answer;
+use records::Handout;
 
 // 4 DELIVER: not recovering; ballot is cballot; stamp above the last delivered and job not on the list
-pub fn decide_deliver(plan: Plan, x: BoxState, job: u8, b: Ballot, global: Stamp) -> Answer
-    ensures { λ r. ⌜ r ≡ deliverAnswer plan x job b global ⌝ }
+pub fn decide_deliver(plan: Plan, x: BoxState, job: u8, y: Handout) -> Answer
+    ensures { λ r. ⌜ r ≡ deliverAnswer plan x job y ⌝ }
 {
     let c = x.core;
     let status = c.status;
@@ -24,6 +22,8 @@ pub fn decide_deliver(plan: Plan, x: BoxState, job: u8, b: Ballot, global: Stamp
     let home = boxes::home_in(plan, x);
     let named = house::named(plan, job, home);
     let recovers = boxes::is_recovering(status);
+    let b = y.ballot;
+    let global = y.global;
     let same = house::same_ballot(b, cb);
     let last = boxes::last_stamp(x);
     let undone = house::stamp_below(last, global) & !boxes::on_list(x, job);
@@ -31,40 +31,29 @@ pub fn decide_deliver(plan: Plan, x: BoxState, job: u8, b: Ballot, global: Stamp
 }
 
 // phase 3, both stamps, clock raised, job added to the list
-fn deliver(x: BoxState, job: u8, b: Ballot, local: Stamp, global: Stamp) -> BoxState
+fn deliver(x: BoxState, job: u8, y: Handout) -> BoxState
     requires { ⌜ (job < 64) × (x .core .count < 64) ⌝ }
-    ensures { λ r. ⌜ r ≡ delivered x job (record { ballot = b; local = local; global = global }) ⌝ }
+    ensures { λ r. ⌜ r ≡ delivered x job y ⌝ }
 {
     let c = x.core;
-    let clock = accept::raise(c.clock, global.time);
+    let local = y.local;
+    let global = y.global;
+    let clock = boxes::raise(c.clock, global.time);
     let new = Row {
         phase: house::COMMITTED,
         local: local,
         global: global,
     };
     let j = job as usize;
-    let y = boxes::put_row(x, clock, j, new);
-    boxes::put_listed(y, job, global)
+    let z = boxes::put_row(x, clock, j, new);
+    boxes::put_listed(z, job, global)
 }
 
 // 4 DELIVER
-pub fn do_deliver(
-    plan: Plan,
-    x: BoxState,
-    job: u8,
-    b: Ballot,
-    local: Stamp,
-    global: Stamp,
-) -> Outcome
-    requires { ⌜ (job < 64) × (x .core .count < 64) × (deliverAnswer plan x job b global ≡ Answer.Done) ⌝ }
-    ensures { λ r. ⌜ r ≡ resultOf plan x (onDeliver plan x job (record { ballot = b; local = local; global = global })) ⌝ }
+pub fn do_deliver(plan: Plan, x: BoxState, job: u8, y: Handout) -> Outcome
+    requires { ⌜ (job < 64) × (x .core .count < 64) × (deliverAnswer plan x job y ≡ Answer.Done) ⌝ }
+    ensures { λ r. ⌜ r ≡ resultOf plan x (onDeliver plan x job y) ⌝ }
 {
-    let y = deliver(x, job, b, local, global);
-    Outcome {
-        answer: Answer::Done,
-        used: 0,
-        records: 0,
-        state: y,
-        delivery: Delivery::Job(job),
-    }
+    let z = deliver(x, job, y);
+    boxes::done(z, 0, 0, Delivery::Job(job))
 }

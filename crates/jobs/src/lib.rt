@@ -1,9 +1,10 @@
-// A job's way through a box: 1 MULTICAST, 2 ACCEPT, 3 ACCEPT_ACK, 4 DELIVER, and retry.
-// One module a kind; each definition stands under the same name in specs/ of boxes.
+// A job's way through a box: 1 MULTICAST, 2 ACCEPT, 3 ACCEPT_ACK, 4 DELIVER, post and retry.
+// One module a kind or an order; each definition stands under the same name in specs/ of boxes.
 mod accept;
 mod accept_ack;
 mod deliver;
 mod multicast;
+mod post;
 mod retry;
 
 pub use accept::decide_accept;
@@ -14,4 +15,6 @@ pub use deliver::decide_deliver;
 pub use deliver::do_deliver;
 pub use multicast::decide_multicast;
 pub use multicast::do_multicast;
+pub use post::do_post;
 pub use retry::decide_retry;
+pub use retry::do_retry;

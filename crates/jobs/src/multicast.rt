@@ -11,7 +11,6 @@ ghost use Rattle.house.specs.Plan.{planSound};
 ghost use Rattle.records.specs.Bytes.{encodeAll};
 ghost use Rattle.boxes.specs.Out.{resultOf, recordsOf};
 use boxes::BoxState;
-use boxes::Delivery;
 use boxes::Outcome;
 use house::Plan;
 use house::Row;
@@ -67,12 +66,6 @@ pub fn do_multicast(plan: Plan, x: BoxState, job: u8, tray: &mut [u8]) -> Outcom
     let c = y.core;
     let own = c.own;
     let r = sending::accept_record(y, own, job);
-    let s = sending::send(tray, plan, r);
-    Outcome {
-        answer: Answer::Done,
-        used: s.used,
-        records: s.records,
-        state: y,
-        delivery: Delivery::Nothing,
-    }
+    let meant = house::named_boxes(plan, job);
+    sending::done_sending(plan, y, r, meant, tray)
 }

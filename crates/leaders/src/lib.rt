@@ -16,3 +16,4 @@ pub use newleader_ack::do_newleader_ack;
 pub use newstate_ack::decide_newstate_ack;
 pub use newstate_ack::do_newstate_ack;
 pub use stand::decide_stand;
+pub use stand::do_stand;

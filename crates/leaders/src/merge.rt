@@ -6,7 +6,6 @@ ghost use mathlib.Core.List.{[], _∷_};
 ghost use Prim.Native.Nat.{ℕ, _≤_};
 ghost use Rattle.laws.specs.Choice.{pick};
 ghost use Rattle.house.specs.Pairs.{higherBallot};
-ghost use Rattle.boxes.specs.Box.{raised};
 ghost use Rattle.boxes.specs.NewleaderAck.{voteOf, votesWith};
 ghost use Rattle.boxes.specs.Merge.{topClock, voteRow, mergedRow, mergedTable, merged};
 use boxes::BoxState;
@@ -16,7 +15,7 @@ use house::Ballot;
 use house::BoxNo;
 use house::Plan;
 use house::Row;
-use house::Stamp;
+use records::Ballotpaper;
 
 // what the votes come to: the larger clock and the merged table
 pub struct Merged {
@@ -24,17 +23,13 @@ pub struct Merged {
     pub table: [Row; house::JOBS],
 }
 
-// the clock raised to a time
-fn raise(c: u32, t: u32) -> u32
-    ensures { λ r. ⌜ r ≡ raised c t ⌝ }
+// a vote as it is kept
+pub fn vote_of(from: BoxNo, y: Ballotpaper) -> Vote
+    ensures { λ r. ⌜ r ≡ voteOf from y ⌝ }
 {
-    if c < t { t } else { c }
-}
-
-// a vote as it is kept, whatever ballot it is for
-pub fn vote_of(from: BoxNo, cballot: Ballot, clock: Stamp, table: [Row; house::JOBS]) -> Vote
-    ensures { λ r. ⌜ ((b : Ballot) → r ≡ voteOf from (record { ballot = b; cballot = cballot; clock = clock; table = table })) ⌝ }
-{
+    let cballot = y.cballot;
+    let clock = y.clock;
+    let table = y.table;
     Vote {
         held: true,
         voter: from,
@@ -58,7 +53,7 @@ fn higher_ballot(low: Ballot, high: Ballot) -> Ballot
 fn top_clock(low: Vote, high: Vote) -> u32
     ensures { λ r. ⌜ r ≡ topClock (low ∷ high ∷ []) ⌝ }
 {
-    raise(low.clock, high.clock)
+    boxes::raise(low.clock, high.clock)
 }
 
 // the row of the first of two votes that passes, else another row

@@ -16,9 +16,8 @@ use boxes::Status;
 use house::Ballot;
 use house::BoxNo;
 use house::Plan;
-use house::Row;
-use house::Stamp;
 use records::Answer;
+use records::NewState;
 
 // recovering, ballot equal
 pub fn decide_new_state(x: BoxState, b: Ballot) -> Answer
@@ -33,36 +32,26 @@ pub fn decide_new_state(x: BoxState, b: Ballot) -> Answer
 }
 
 // follower, cballot set, clock and table taken
-fn follow(x: BoxState, b: Ballot, clock: Stamp, table: [Row; house::JOBS]) -> BoxState
-    ensures { λ r. ⌜ r ≡ followed x (record { ballot = b; clock = clock; table = table }) ⌝ }
+fn follow(x: BoxState, y: NewState) -> BoxState
+    ensures { λ r. ⌜ r ≡ followed x y ⌝ }
 {
     let c = x.core;
     let ballot = c.ballot;
+    let b = y.ballot;
+    let clock = y.clock;
+    let table = y.table;
     let with_table = boxes::put_table(x, clock.time, table);
     boxes::put_mode(with_table, Status::Follower, ballot, b)
 }
 
 // 7 NEW_STATE
-pub fn do_new_state(
-    plan: Plan,
-    x: BoxState,
-    from: BoxNo,
-    b: Ballot,
-    clock: Stamp,
-    table: [Row; house::JOBS],
-    tray: &mut [u8],
-) -> Outcome
-    requires { ⌜ (planSound plan ≡ true) × (length (encodeAll plan (recordsOf (onNewState x from (record { ballot = b; clock = clock; table = table })))) ≤ length (now tray)) × (newStateAnswer x b ≡ Answer.Done) ⌝ }
-    ensures { λ r. ⌜ (r ≡ resultOf plan x (onNewState x from (record { ballot = b; clock = clock; table = table }))) × (now (tray .exit) ≡ onto (encodeAll plan (recordsOf (onNewState x from (record { ballot = b; clock = clock; table = table })))) (now (tray .entry))) ⌝ }
+pub fn do_new_state(plan: Plan, x: BoxState, from: BoxNo, y: NewState, tray: &mut [u8]) -> Outcome
+    requires { ⌜ (planSound plan ≡ true) × (length (encodeAll plan (recordsOf (onNewState x from y))) ≤ length (now tray)) × (newStateAnswer x (y .ballot) ≡ Answer.Done) ⌝ }
+    ensures { λ r. ⌜ (r ≡ resultOf plan x (onNewState x from y)) × (now (tray .exit) ≡ onto (encodeAll plan (recordsOf (onNewState x from y))) (now (tray .entry))) ⌝ }
 {
-    let y = follow(x, b, clock, table);
+    let b = y.ballot;
+    let z = follow(x, y);
     let r = sending::newstate_ack_record(x, from, b);
     let used = writer::put_record(tray, plan, r);
-    Outcome {
-        answer: Answer::Done,
-        used: used,
-        records: 1,
-        state: y,
-        delivery: Delivery::Nothing,
-    }
+    boxes::done(z, used, 1, Delivery::Nothing)
 }

@@ -46,11 +46,5 @@ pub fn do_newleader(plan: Plan, x: BoxState, from: BoxNo, b: Ballot, tray: &mut 
     let y = join(x, b);
     let r = sending::vote_record(plan, x, from, b);
     let used = writer::put_record(tray, plan, r);
-    Outcome {
-        answer: Answer::Done,
-        used: used,
-        records: 1,
-        state: y,
-        delivery: Delivery::Nothing,
-    }
+    boxes::done(y, used, 1, Delivery::Nothing)
 }

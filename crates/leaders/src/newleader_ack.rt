@@ -18,9 +18,8 @@ use boxes::Vote;
 use house::Ballot;
 use house::BoxNo;
 use house::Plan;
-use house::Row;
-use house::Stamp;
 use records::Answer;
+use records::Ballotpaper;
 
 // this box has voted already
 fn voted_by(x: BoxState, from: BoxNo) -> bool
@@ -74,23 +73,11 @@ fn when_voted(plan: Plan, x: BoxState, v: Vote, tray: &mut [u8]) -> Outcome
         let c = y.core;
         let own = c.own;
         let r = sending::new_state_record(plan, y, own);
-        let s = sending::send(tray, plan, r);
-        return Outcome {
-            answer: Answer::Done,
-            used: s.used,
-            records: s.records,
-            state: y,
-            delivery: Delivery::Nothing,
-        };
+        let meant = house::other_boxes(plan, own);
+        return sending::done_sending(plan, y, r, meant, tray);
     }
     let y = boxes::put_vote(x, v);
-    Outcome {
-        answer: Answer::Done,
-        used: 0,
-        records: 0,
-        state: y,
-        delivery: Delivery::Nothing,
-    }
+    boxes::done(y, 0, 0, Delivery::Nothing)
 }
 
 // 6 NEWLEADER_ACK
@@ -98,15 +85,12 @@ pub fn do_newleader_ack(
     plan: Plan,
     x: BoxState,
     from: BoxNo,
-    b: Ballot,
-    cballot: Ballot,
-    clock: Stamp,
-    table: [Row; house::JOBS],
+    y: Ballotpaper,
     tray: &mut [u8],
 ) -> Outcome
-    requires { ⌜ (planSound plan ≡ true) × (length (encodeAll plan (recordsOf (onNewleaderAck plan x from (record { ballot = b; cballot = cballot; clock = clock; table = table })))) ≤ length (now tray)) × (newleaderAckAnswer x from b ≡ Answer.Done) ⌝ }
-    ensures { λ r. ⌜ (r ≡ resultOf plan x (onNewleaderAck plan x from (record { ballot = b; cballot = cballot; clock = clock; table = table }))) × (now (tray .exit) ≡ onto (encodeAll plan (recordsOf (onNewleaderAck plan x from (record { ballot = b; cballot = cballot; clock = clock; table = table })))) (now (tray .entry))) ⌝ }
+    requires { ⌜ (planSound plan ≡ true) × (length (encodeAll plan (recordsOf (onNewleaderAck plan x from y))) ≤ length (now tray)) × (newleaderAckAnswer x from (y .ballot) ≡ Answer.Done) ⌝ }
+    ensures { λ r. ⌜ (r ≡ resultOf plan x (onNewleaderAck plan x from y)) × (now (tray .exit) ≡ onto (encodeAll plan (recordsOf (onNewleaderAck plan x from y))) (now (tray .entry))) ⌝ }
 {
-    let v = merge::vote_of(from, cballot, clock, table);
+    let v = merge::vote_of(from, y);
     when_voted(plan, x, v, tray)
 }

@@ -51,11 +51,5 @@ pub fn do_newstate_ack(plan: Plan, x: BoxState, b: Ballot, tray: &mut [u8]) -> O
     let h = sending::hand_out(tray, plan, c);
     let sent = h.sent;
     let z = boxes::put_sent(y, sent);
-    Outcome {
-        answer: Answer::Done,
-        used: h.used,
-        records: h.records,
-        state: z,
-        delivery: Delivery::Nothing,
-    }
+    boxes::done(z, h.used, h.records, Delivery::Nothing)
 }

@@ -11,30 +11,10 @@ use Rattle.house.specs.declared.Ballot.{Ballot}
 use Rattle.house.specs.declared.BoxNo.{BoxNo}
 use Rattle.house.specs.declared.Row.{Row}
 use Rattle.records.specs.declared.Record.{Record}
-
--- what an ACCEPT says
-pub record Proposal : Type 0 where
-  pub ballot : Ballot
-  pub stamp : Stamp
-
--- what a DELIVER says
-pub record Handout : Type 0 where
-  pub ballot : Ballot
-  pub local : Stamp
-  pub global : Stamp
-
--- what a NEWLEADER_ACK says
-pub record Ballotpaper : Type 0 where
-  pub ballot : Ballot
-  pub cballot : Ballot
-  pub clock : Stamp
-  pub table : List Row
-
--- what a NEW_STATE says
-pub record NewState : Type 0 where
-  pub ballot : Ballot
-  pub clock : Stamp
-  pub table : List Row
+use Rattle.records.specs.declared.Proposal.{Proposal}
+use Rattle.records.specs.declared.Handout.{Handout}
+use Rattle.records.specs.declared.Ballotpaper.{Ballotpaper}
+use Rattle.records.specs.declared.NewState.{NewState}
 
 pub data Rec : Type 0 where
   multicast : (from to : BoxNo) (job : ℕ) → Rec

@@ -45,6 +45,34 @@ pub struct Record {
     pub table: [Row; house::JOBS],
 }
 
+// what an ACCEPT says
+pub struct Proposal {
+    pub ballot: Ballot,
+    pub stamp: Stamp,
+}
+
+// what a DELIVER says
+pub struct Handout {
+    pub ballot: Ballot,
+    pub local: Stamp,
+    pub global: Stamp,
+}
+
+// what a NEWLEADER_ACK says
+pub struct Ballotpaper {
+    pub ballot: Ballot,
+    pub cballot: Ballot,
+    pub clock: Stamp,
+    pub table: [Row; house::JOBS],
+}
+
+// what a NEW_STATE says
+pub struct NewState {
+    pub ballot: Ballot,
+    pub clock: Stamp,
+    pub table: [Row; house::JOBS],
+}
+
 // what a call answers: done, or the number of the refusal
 pub enum Answer {
     Done,

@@ -1,10 +1,10 @@
 -- An order judged over the box as it is: refused, or done as a step of the box, with the record that the box takes or sends.
-use Prim.Native.Nat.{ℕ, _≤_}
+use Prim.Native.Nat.{ℕ, _≤_, _<_}
 use mathlib.Core.Bool.{true}
 use mathlib.Core.List.{List, []}
 use mathlib.Core.Path.{_≡_}
 use lib.ListN.{length}
-use Rattle.house.specs.Limits.{leastTray}
+use Rattle.house.specs.Limits.{mostJobs, mostNumber, leastTray}
 use Rattle.house.specs.Plan.{planSound}
 use Rattle.house.specs.declared.Plan.{Plan}
 use Rattle.records.specs.Bytes.{encodeAll}
@@ -22,7 +22,6 @@ use Rattle.boxes.specs.Promise.{wasDone, boxAfter}
 use Rattle.boxes.specs.Step.{react}
 use Rattle.boxes.specs.declared.BoxState.{BoxState}
 use Rattle.boxes.specs.declared.Delivery.the-variants.{Nothing}
-use Rattle.sending.specs.Sends.{Sends}
 use Rattle.steps.specs.Acting.{Acting}
 use Rattle.steps.specs.Judged.{judged}
 use Rattle.rehearsal.specs.Night.{exists, ifFits}
@@ -38,11 +37,11 @@ stepOf P x (Retry p j) r = does x (retries P x j) Nothing
 stepOf P x (Cut p) r = does (cut x) [] Nothing
 stepOf P x (Carry k) r = react P x (meaning r)
 
--- what its code needs: a record to send as it is, or one that the box may act on
+-- what its code needs: a job's number that is a byte, room for the next ballot's number, or a record that the box may act on
 abbrev pub Can : Plan → BoxState → Order → Record → Type 0
-Can P x (Post j) r = Sends P (posts P j) r
-Can P x (Stand p) r = Sends P (standing P x) r
-Can P x (Retry p j) r = Sends P (retries P x j) r
+Can P x (Post j) r = j < mostJobs
+Can P x (Stand p) r = x .core .ballot .number < mostNumber
+Can P x (Retry p j) r = j < mostJobs
 Can P x (Cut p) r = planSound P ≡ true
 Can P x (Carry k) r = Acting P x r leastTray × (judged P x (meaning r) ≡ Done)
 

@@ -2,13 +2,14 @@
 // The definition, exists, stands in specs/Night.antt.
 ghost use mathlib.Core.Path.{_≡_};
 ghost use mathlib.Core.Bool.{true, false};
-ghost use Prim.Native.Nat.{ℕ, _<_};
+ghost use Prim.Native.Nat.{ℕ, _<_, _≤_};
 ghost use Rattle.house.specs.Plan.{planSound};
 ghost use Rattle.boxes.specs.Sound.{sound};
 ghost use Rattle.boxes.specs.Lengths.{Lengths};
 ghost use Rattle.post.specs.Index.{Indexed};
-ghost use Rattle.rehearsal.specs.Night.{mostBoxes};
-ghost use Rattle.rehearsal.specs.Alone.{Found};
+ghost use Rattle.post.specs.Posting.{mostPlace};
+ghost use Rattle.rehearsal.specs.Night.{mostBoxes, exists};
+ghost use Rattle.rehearsal.specs.Alone.{here, Starts, Found};
 ghost use Rattle.rehearsal.specs.declared.Order.the-variants.{Carry};
 use crate::Order;
 use boxes::BoxState;
@@ -103,6 +104,22 @@ pub fn find(
         Order::Retry(p, j) => find_box(p, count),
         Order::Cut(p) => find_box(p, count),
         Order::Carry(k) => find_record(plan, fixed, used, k, post, index, count),
+    }
+}
+
+// such a box, job or record exists
+pub fn is_there(plan: Plan, used: usize, order: Order, start: usize, post: &[u8]) -> bool
+    requires { ⌜ (start ≤ mostPlace) × Starts plan (now post) used order start ⌝ }
+    ensures { λ r. ⌜ r ≡ exists plan (here used) (now (post .entry)) order ⌝ }
+{
+    let boxes = house::boxes_of(plan);
+    let jobs = plan.jobs as u32;
+    match order {
+        Order::Post(j) => j < jobs,
+        Order::Stand(p) => p < boxes as u32,
+        Order::Retry(p, j) => (p < boxes as u32) & (j < jobs),
+        Order::Cut(p) => p < boxes as u32,
+        Order::Carry(k) => (start < used) & ((post::byte_at(post, start + 3) as u16) < boxes),
     }
 }
 

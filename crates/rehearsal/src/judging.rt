@@ -9,126 +9,67 @@ ghost use Rattle.records.specs.Rec.{noRecord};
 ghost use Rattle.boxes.specs.Sound.{sound};
 ghost use Rattle.boxes.specs.Lengths.{Lengths};
 ghost use Rattle.post.specs.Posting.{mostPlace, startOf};
-ghost use Rattle.rehearsal.specs.Alone.{Starts};
+ghost use Rattle.rehearsal.specs.Alone.{here, Starts};
+ghost use Rattle.rehearsal.specs.Night.{exists};
 ghost use Rattle.rehearsal.specs.Steps.{Judges};
-ghost use Rattle.rehearsal.specs.declared.Order.the-variants.{Post, Stand, Retry, Cut, Carry};
+ghost use Rattle.rehearsal.specs.declared.Order.the-variants.{Stand, Retry, Cut, Carry};
 use crate::Order;
 use crate::exists;
 use boxes::BoxState;
 use house::Plan;
 use records::Answer;
-use records::Record;
 use steps::Judged;
 
-fn refuse(n: u8) -> Judged
-    ensures { λ j. ⌜ j ≡ record { rec = noRecord; answer = Answer.No n } ⌝ }
+// an answer without a record
+fn answered(a: Answer) -> Judged
+    ensures { λ j. ⌜ j ≡ record { rec = noRecord; answer = a } ⌝ }
 {
     let none = records::no_record();
     Judged {
         rec: none,
-        answer: Answer::No(n),
+        answer: a,
     }
-}
-
-fn go(r: Record) -> Judged
-    ensures { λ j. ⌜ j ≡ record { rec = r; answer = Answer.Done } ⌝ }
-{
-    Judged {
-        rec: r,
-        answer: Answer::Done,
-    }
-}
-
-// `post J`: no box is asked
-fn judge_post(plan: Plan, j: u32) -> Judged
-    requires { ⌜ planSound plan ≡ true ⌝ }
-    ensures { λ r. ⌜ ((used : ℕ) (x : BoxState) (s : List ℕ) → Judges plan used x s (Post j) (r .answer) (r .rec)) ⌝ }
-{
-    if j < plan.jobs as u32 {} else {
-        return refuse(records::NO_SUCH);
-    }
-    let office = house::office_of(plan);
-    go(sending::multicast_record(office, office, j as u8))
 }
 
 // `stand B`
-fn judge_stand(plan: Plan, known: bool, x: BoxState, p: u32) -> Judged
+fn judge_stand(plan: Plan, known: bool, x: BoxState) -> Judged
     requires { ⌜ (planSound plan ≡ true) × (known ≡ sound plan x) × Lengths x ⌝ }
-    ensures { λ r. ⌜ ((used : ℕ) (s : List ℕ) → Judges plan used x s (Stand p) (r .answer) (r .rec)) ⌝ }
+    ensures { λ r. ⌜ ((used p : ℕ) (s : List ℕ) → exists plan (here used) s (Stand p) ≡ true → Judges plan used x s (Stand p) (r .answer) (r .rec)) ⌝ }
 {
-    if p < house::boxes_of(plan) as u32 {} else {
-        return refuse(records::NO_SUCH);
-    }
     if known {} else {
-        return refuse(records::NOT_SOUND);
+        return answered(Answer::No(records::NOT_SOUND));
     }
-    let answer = leaders::decide_stand(x);
-    match answer {
-        Answer::No(n) => refuse(n),
-        Answer::Done => {
-            let c = x.core;
-            let own = c.own;
-            go(sending::stand_record(x, own))
-        }
-    }
+    answered(leaders::decide_stand(x))
 }
 
 // `retry B J`
-fn judge_retry(plan: Plan, known: bool, x: BoxState, p: u32, j: u32) -> Judged
+fn judge_retry(plan: Plan, known: bool, x: BoxState, job: u8) -> Judged
     requires { ⌜ (planSound plan ≡ true) × (known ≡ sound plan x) × Lengths x ⌝ }
-    ensures { λ r. ⌜ ((used : ℕ) (s : List ℕ) → Judges plan used x s (Retry p j) (r .answer) (r .rec)) ⌝ }
+    ensures { λ r. ⌜ ((used p : ℕ) (s : List ℕ) → exists plan (here used) s (Retry p job) ≡ true → Judges plan used x s (Retry p job) (r .answer) (r .rec)) ⌝ }
 {
-    if (p < house::boxes_of(plan) as u32) & (j < plan.jobs as u32) {} else {
-        return refuse(records::NO_SUCH);
-    }
     if known {} else {
-        return refuse(records::NOT_SOUND);
+        return answered(Answer::No(records::NOT_SOUND));
     }
-    let answer = jobs::decide_retry(plan, x, j as u8);
-    match answer {
-        Answer::No(n) => refuse(n),
-        Answer::Done => {
-            let c = x.core;
-            let own = c.own;
-            go(sending::multicast_record(own, own, j as u8))
-        }
-    }
+    answered(jobs::decide_retry(plan, x, job))
 }
 
 // `cut B`
-fn judge_cut(plan: Plan, known: bool, p: u32) -> Judged
-    requires { ⌜ planSound plan ≡ true ⌝ }
-    ensures { λ r. ⌜ ((used : ℕ) (x : BoxState) (s : List ℕ) → known ≡ sound plan x → Lengths x → Judges plan used x s (Cut p) (r .answer) (r .rec)) ⌝ }
+fn judge_cut(known: bool) -> Judged
+    ensures { λ r. ⌜ ((P : Plan) (used p : ℕ) (x : BoxState) (s : List ℕ) → planSound P ≡ true → known ≡ sound P x → Lengths x → exists P (here used) s (Cut p) ≡ true → Judges P used x s (Cut p) (r .answer) (r .rec)) ⌝ }
 {
-    if p < house::boxes_of(plan) as u32 {} else {
-        return refuse(records::NO_SUCH);
-    }
     if known {} else {
-        return refuse(records::NOT_SOUND);
+        return answered(Answer::No(records::NOT_SOUND));
     }
-    let none = records::no_record();
-    go(none)
+    answered(Answer::Done)
 }
 
 // `carry K`, of which the record begins at `start`, to the box that it is addressed to
-fn judge_carry(
-    plan: Plan,
-    known: bool,
-    used: usize,
-    x: BoxState,
-    k: u32,
-    start: usize,
-    post: &[u8],
-) -> Judged
-    requires { ⌜ (planSound plan ≡ true) × (known ≡ sound plan x) × Lengths x × (start ≤ mostPlace) × (start ≡ startOf plan (now post) used k) ⌝ }
-    ensures { λ r. ⌜ Judges plan used x (now (post .entry)) (Carry k) (r .answer) (r .rec) ⌝ }
+fn judge_carry(plan: Plan, known: bool, x: BoxState, start: usize, post: &[u8]) -> Judged
+    requires { ⌜ (planSound plan ≡ true) × (known ≡ sound plan x) × Lengths x × (start ≤ mostPlace) ⌝ }
+    ensures { λ r. ⌜ ((used k : ℕ) → start ≡ startOf plan (now (post .entry)) used k → exists plan (here used) (now (post .entry)) (Carry k) ≡ true → Judges plan used x (now (post .entry)) (Carry k) (r .answer) (r .rec)) ⌝ }
 {
-    let addressee = post::byte_at(post, start + 3);
-    if (start < used) & ((addressee as u16) < house::boxes_of(plan)) {} else {
-        return refuse(records::NO_SUCH);
-    }
     if known {} else {
-        return refuse(records::NOT_SOUND);
+        return answered(Answer::No(records::NOT_SOUND));
     }
     let kind = post::byte_at(post, start + 1);
     let len = post::length_of(plan, kind);
@@ -151,13 +92,16 @@ pub fn judge(
     ensures { λ r. ⌜ Judges plan used x (now (post .entry)) order (r .answer) (r .rec) ⌝ }
 {
     if exists::known_plan(plan, known) {} else {
-        return refuse(records::NOT_SOUND);
+        return answered(Answer::No(records::NOT_SOUND));
+    }
+    if exists::is_there(plan, used, order, start, post) {} else {
+        return answered(Answer::No(records::NO_SUCH));
     }
     match order {
-        Order::Post(j) => judge_post(plan, j),
-        Order::Stand(p) => judge_stand(plan, known, x, p),
-        Order::Retry(p, j) => judge_retry(plan, known, x, p, j),
-        Order::Cut(p) => judge_cut(plan, known, p),
-        Order::Carry(k) => judge_carry(plan, known, used, x, k, start, post),
+        Order::Post(j) => answered(Answer::Done),
+        Order::Stand(p) => judge_stand(plan, known, x),
+        Order::Retry(p, j) => judge_retry(plan, known, x, j as u8),
+        Order::Cut(p) => judge_cut(known),
+        Order::Carry(k) => judge_carry(plan, known, x, start, post),
     }
 }

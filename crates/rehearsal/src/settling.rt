@@ -2,18 +2,17 @@
 // The definition, Settles, stands in specs/Settled.antt.
 ghost use mathlib.Core.Path.{_≡_};
 ghost use mathlib.Core.Bool.{true};
-ghost use mathlib.Core.List.{List, []};
+ghost use mathlib.Core.List.{[]};
 ghost use Prim.Native.Nat.{_≤_};
 ghost use lib.ListN.{length};
 ghost use Rattle.laws.specs.Tray.{onto};
 ghost use Rattle.house.specs.Limits.{leastTray};
 ghost use Rattle.house.specs.Plan.{planSound};
 ghost use Rattle.records.specs.Bytes.{encodeAll};
-ghost use Rattle.records.specs.Rec.{Rec};
 ghost use Rattle.boxes.specs.Cut.{cut};
+ghost use Rattle.boxes.specs.Post.{posts};
 ghost use Rattle.boxes.specs.Out.{does, resultOf, recordsOf};
 ghost use Rattle.boxes.specs.declared.Delivery.the-variants.{Nothing};
-ghost use Rattle.sending.specs.Sends.{Sends, sentBytes};
 ghost use Rattle.rehearsal.specs.Steps.{stepOf, Can};
 ghost use Rattle.rehearsal.specs.Settled.{Settles};
 use crate::Order;
@@ -21,7 +20,6 @@ use boxes::BoxState;
 use boxes::Delivery;
 use boxes::Outcome;
 use house::Plan;
-use records::Answer;
 use records::Record;
 
 // how much of the post is used after a step, and whether its records fit
@@ -30,19 +28,13 @@ pub struct Settled {
     pub fits: bool,
 }
 
-// a record is sent, and the box stays
-fn send_only(plan: Plan, x: BoxState, r: Record, tray: &mut [u8]) -> Outcome
-    requires { ⌜ (planSound plan ≡ true) × (length (sentBytes plan r) ≤ length (now tray)) ⌝ }
-    ensures { λ o. ⌜ ((l : List Rec) → Sends plan l r → (o ≡ resultOf plan x (does x l Nothing)) × (now (tray .exit) ≡ onto (encodeAll plan l) (now (tray .entry)))) ⌝ }
+// the office's records are sent, and the box stays
+fn post_only(plan: Plan, x: BoxState, job: u8, tray: &mut [u8]) -> Outcome
+    requires { ⌜ (planSound plan ≡ true) × (length (encodeAll plan (posts plan job)) ≤ length (now tray)) ⌝ }
+    ensures { λ o. ⌜ (o ≡ resultOf plan x (does x (posts plan job) Nothing)) × (now (tray .exit) ≡ onto (encodeAll plan (posts plan job)) (now (tray .entry))) ⌝ }
 {
-    let s = sending::send(tray, plan, r);
-    Outcome {
-        state: x,
-        used: s.used,
-        records: s.records,
-        answer: Answer::Done,
-        delivery: Delivery::Nothing,
-    }
+    let s = jobs::do_post(plan, job, tray);
+    boxes::done(x, s.used, s.records, Delivery::Nothing)
 }
 
 // the box forgets its volatile part
@@ -50,13 +42,7 @@ fn cut_only(x: BoxState) -> Outcome
     ensures { λ o. ⌜ ((P : Plan) → o ≡ resultOf P x (does (cut x) [] Nothing)) ⌝ }
 {
     let y = boxes::cut_box(x);
-    Outcome {
-        state: y,
-        used: 0,
-        records: 0,
-        answer: Answer::Done,
-        delivery: Delivery::Nothing,
-    }
+    boxes::done(y, 0, 0, Delivery::Nothing)
 }
 
 // the step of an order that nothing refuses
@@ -65,9 +51,9 @@ pub fn step(plan: Plan, x: BoxState, order: Order, r: Record, tray: &mut [u8]) -
     ensures { λ o. ⌜ (o ≡ resultOf plan x (stepOf plan x order r)) × (now (tray .exit) ≡ onto (encodeAll plan (recordsOf (stepOf plan x order r))) (now (tray .entry))) ⌝ }
 {
     match order {
-        Order::Post(j) => send_only(plan, x, r, tray),
-        Order::Stand(p) => send_only(plan, x, r, tray),
-        Order::Retry(p, j) => send_only(plan, x, r, tray),
+        Order::Post(j) => post_only(plan, x, j as u8, tray),
+        Order::Stand(p) => leaders::do_stand(plan, x, tray),
+        Order::Retry(p, j) => jobs::do_retry(plan, x, j as u8, tray),
         Order::Cut(p) => cut_only(x),
         Order::Carry(k) => steps::act(plan, x, r, tray),
     }

@@ -34,7 +34,8 @@ fn hand_job(t: &mut [u8], plan: Plan, own: BoxNo, b: Ballot, row: Row, job: u8) 
     ensures { λ s. ⌜ (s .used ≡ length (encodeAll plan (deliversFrom plan own b row job))) × (s .records ≡ length (deliversFrom plan own b row job)) × (now (t .exit) ≡ onto (encodeAll plan (deliversFrom plan own b row job)) (now (t .entry))) × (s .records ≤ 12) ⌝ }
 {
     let r = draft::deliver_record(own, own, job, b, row);
-    sends::send(t, plan, r)
+    let meant = house::home_boxes(plan, own);
+    sends::send(t, plan, r, meant)
 }
 
 // all ready jobs of a box with this core, whatever its volatile part

@@ -14,6 +14,7 @@ pub use draft::stand_record;
 pub use draft::vote_record;
 pub use handing::hand_out;
 pub use ready::is_open;
+pub use sends::done_sending;
 pub use sends::send;
 
 // how many bytes and records were written

@@ -3,5 +3,4 @@ pub mod Acting
 pub mod Judged
 pub mod Kinds
 pub mod Judging
-pub mod Orders
 pub mod Owned

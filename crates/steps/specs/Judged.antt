@@ -18,7 +18,7 @@ unfoldable pub judged : Plan → BoxState → Rec → Answer
 judged P x (multicast from to j) = multicastAnswer P x j
 judged P x (accept from to j y) = acceptAnswer P x from j y
 judged P x (accept-ack from to j bs) = acceptAckAnswer P x from j bs
-judged P x (deliver from to j y) = deliverAnswer P x j (y .ballot) (y .global)
+judged P x (deliver from to j y) = deliverAnswer P x j y
 judged P x (newleader from to b) = newleaderAnswer x b
 judged P x (newleader-ack from to y) = newleaderAckAnswer x from (y .ballot)
 judged P x (new-state from to y) = newStateAnswer x (y .ballot)

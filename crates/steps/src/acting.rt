@@ -13,6 +13,10 @@ use boxes::BoxState;
 use boxes::Outcome;
 use house::Plan;
 use records::Answer;
+use records::Ballotpaper;
+use records::Handout;
+use records::NewState;
+use records::Proposal;
 use records::Record;
 
 // the step
@@ -29,21 +33,41 @@ pub fn act(plan: Plan, x: BoxState, r: Record, tray: &mut [u8]) -> Outcome
     let k = r.kind;
     match k {
         records::MULTICAST => jobs::do_multicast(plan, x, job, tray),
-        records::ACCEPT => jobs::do_accept(plan, x, from, job, b, s, tray),
+        records::ACCEPT => {
+            let y = Proposal {
+                ballot: b,
+                stamp: s,
+            };
+            jobs::do_accept(plan, x, from, job, y, tray)
+        }
         records::ACCEPT_ACK => jobs::do_accept_ack(plan, x, from, job, ballots, tray),
         records::DELIVER => {
-            let t = stamps[1];
-            jobs::do_deliver(plan, x, job, b, s, t)
+            let y = Handout {
+                ballot: b,
+                local: s,
+                global: stamps[1],
+            };
+            jobs::do_deliver(plan, x, job, y)
         }
         records::NEWLEADER => leaders::do_newleader(plan, x, from, b, tray),
         records::NEWLEADER_ACK => {
-            let cb = ballots[1];
             let table = r.table;
-            leaders::do_newleader_ack(plan, x, from, b, cb, s, table, tray)
+            let y = Ballotpaper {
+                ballot: b,
+                cballot: ballots[1],
+                clock: s,
+                table: table,
+            };
+            leaders::do_newleader_ack(plan, x, from, y, tray)
         }
         records::NEW_STATE => {
             let table = r.table;
-            leaders::do_new_state(plan, x, from, b, s, table, tray)
+            let y = NewState {
+                ballot: b,
+                clock: s,
+                table: table,
+            };
+            leaders::do_new_state(plan, x, from, y, tray)
         }
         _ => leaders::do_newstate_ack(plan, x, b, tray),
     }

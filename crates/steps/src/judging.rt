@@ -17,6 +17,8 @@ use crate::Judged;
 use boxes::BoxState;
 use house::Plan;
 use records::Answer;
+use records::Handout;
+use records::Proposal;
 use records::Record;
 
 // the answer to kinds 1 to 4
@@ -33,11 +35,21 @@ fn judge_job(plan: Plan, x: BoxState, r: Record) -> Answer
     let k = r.kind;
     match k {
         records::MULTICAST => jobs::decide_multicast(plan, x, job),
-        records::ACCEPT => jobs::decide_accept(plan, x, from, job, b, s),
+        records::ACCEPT => {
+            let y = Proposal {
+                ballot: b,
+                stamp: s,
+            };
+            jobs::decide_accept(plan, x, from, job, y)
+        }
         records::ACCEPT_ACK => jobs::decide_accept_ack(plan, x, from, job, ballots),
         _ => {
-            let global = stamps[1];
-            jobs::decide_deliver(plan, x, job, b, global)
+            let y = Handout {
+                ballot: b,
+                local: s,
+                global: stamps[1],
+            };
+            jobs::decide_deliver(plan, x, job, y)
         }
     }
 }

@@ -9,7 +9,11 @@ use Rattle.house.specs.Plan.{homeOf}
 use Rattle.house.specs.declared.Plan.{Plan}
 use Rattle.house.specs.Marks.{marked}
 use Rattle.records.specs.Answers.{orNo}
-use Rattle.records.specs.Rec.{Proposal, Handout, Ballotpaper, NewState, newstate-ack}
+use Rattle.records.specs.Rec.{newstate-ack}
+use Rattle.records.specs.declared.Proposal.{Proposal}
+use Rattle.records.specs.declared.Handout.{Handout}
+use Rattle.records.specs.declared.Ballotpaper.{Ballotpaper}
+use Rattle.records.specs.declared.NewState.{NewState}
 use Rattle.records.specs.declared.Answer.{Answer}
 use Rattle.boxes.specs.Box.{ownOf, marksAt, putMarks}
 use Rattle.boxes.specs.Out.{Out, does, guard, under}
@@ -50,7 +54,7 @@ module _ (P : Plan) (x : BoxState) where
   accept-ack-is from j bs e = rw (← e)
 
   pub deliver-is : (j : ℕ) (y : Handout) {a : Answer}
-      → deliverAnswer P x j (y .ballot) (y .global) ≡ a → onDeliver P x j y ≡ under a (does (delivered x j y) [] (Job j))
+      → deliverAnswer P x j y ≡ a → onDeliver P x j y ≡ under a (does (delivered x j y) [] (Job j))
   unfolding onDeliver
   deliver-is j y e = rw (← e)
 

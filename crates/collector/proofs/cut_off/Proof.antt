@@ -15,8 +15,8 @@ returns c = says-result (rw (sym (c .before .before .is-sound .ensures) ∙ c .b
 returns-2 : tie.Need-returns-2
 unfolding cutOff guard
 returns-2 c =
-    let s = c .before .before in
-    says-result (rw (sym (s .is-sound .ensures) ∙ c .before .if1 .taken, c .cut-box .ensures, encode-none (s .before .args .plan)))
+    let s = c .before .before .before in
+    says-result (c .done .ensures ∙ rw (sym (s .is-sound .ensures) ∙ c .before .before .if1 .taken, c .before .cut-box .ensures, encode-none (s .before .args .plan)))
 
 pub cut-off-spec : {M : Type 1} → statement M
-cut-off-spec = tie.close (tie.spec (λ c κs. search needs) (λ c κs. search needs) returns (λ c κs. search needs) returns-2)
+cut-off-spec = tie.close (tie.spec (λ c κs. search needs) (λ c κs. search needs) returns (λ c κs. search needs) (λ c κs. search needs) returns-2)

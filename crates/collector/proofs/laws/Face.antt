@@ -8,7 +8,6 @@ use lib.ListN.{length}
 use lib.Dec.{leb}
 use borrow.Author.Tests.{leb-true}
 use Rattle.laws.proofs.laws.Choice.{never}
-use Rattle.laws.specs.Tray.{onto}
 use Rattle.laws.proofs.laws.Tray.{onto-nil}
 use Rattle.house.specs.Limits.{leastTray}
 use Rattle.house.specs.Pairs.{boxNo}
@@ -22,10 +21,9 @@ use Rattle.records.specs.Bytes.{encode, encodeAll, parse, shaped}
 use Rattle.records.specs.Rec.{Rec, multicast, newleader, carried}
 use Rattle.records.specs.declared.Answer.{Answer}
 use Rattle.records.specs.declared.Answer.the-variants.{Done, No}
-use Rattle.records.specs.declared.Record.{Record}
 use Rattle.boxes.specs.Box.{ownOf}
 use Rattle.boxes.specs.Sound.{sound}
-use Rattle.boxes.specs.Out.{Out, refused, does, guard, toEach, resultOf, under}
+use Rattle.boxes.specs.Out.{Out, refused, does, guard, toEach, resultOf, under, refusal}
 use Rattle.boxes.specs.Retry.{retries, retry, retryAnswer}
 use Rattle.boxes.specs.Stand.{nextBallot, standing, stand, standAnswer}
 use Rattle.boxes.specs.Promise.{Stepped}
@@ -38,10 +36,8 @@ use Rattle.stays_sound.proofs.laws.Sends.{Sized, in-each, each-most}
 use Rattle.stays_sound.proofs.laws.Size.{sizeOfRec, record-size, few-most}
 use Rattle.boxes.proofs.laws.Sound.{sound-plan}
 use Rattle.boxes.proofs.laws.Answers.{retry-is, stand-is}
-use Rattle.sending.specs.Sends.{Sends, sentBytes, sentCount}
 use Rattle.sending.proofs.laws.Sends.{encode-none}
-use Rattle.sending.specs.declared.Sent.{Sent}
-use Rattle.collector.specs.Face.{admission, refusal, unlessNo, Answering, Written}
+use Rattle.collector.specs.Face.{admission, Answering}
 
 pub two-go : {known t : Bool} (room : ℕ) → known ≡ t → admission known room ≡ Done → (t ≡ true) × (leastTray ≤ room)
 two-go {known} room k h = let g = go known (leb leastTray room) h in (sym k ∙ g .0, leb-true leastTray room (g .1))
@@ -77,16 +73,13 @@ receives-refused P x room s k e = first-is room (guard (shaped P s) unreadable (
 
 -- ---- orders that leave the box as it is
 
--- the outcome that the code makes of the answer and of what was written
-pub ordered : {P : Plan} {x : BoxState} {o : Out} {l : List Rec} {room : ℕ} {a : Answer} {before : List ℕ} {s : Sent} {after : List ℕ}
-    → Answering P x o l room a → Written P (unlessNo a l) before s after
-    → Stepped P x o before (record { answer = a; used = s .used; records = s .records; state = x; delivery = Nothing }) after
-ordered {P} {x} {o} {l} {room} {a} {before} {s} {after} g w = go a (g .order) w
-  where
-    go : (b : Answer) → o ≡ under b (does x l Nothing) → Written P (unlessNo b l) before s after
-        → Stepped P x o before (record { answer = b; used = s .used; records = s .records; state = x; delivery = Nothing }) after
-    go Done e w = stepped (rw (e, w .used, w .records)) (rw e (w .tray))
-    go (No n) e w = stepped (rw (e, w .used, w .records, encode-none P)) (rw e (w .tray))
+-- refused, or done
+module _ {P : Plan} {x : BoxState} {o : Out} {l : List Rec} {room : ℕ} {a : Answer} (g : Answering P x o l room a) where
+  pub answered-no : {n : ℕ} → a ≡ No n → o ≡ refused n
+  answered-no e = g .order ∙ rw e
+
+  pub answered-done : a ≡ Done → o ≡ does x l Nothing
+  answered-done e = g .order ∙ rw e
 
 module _ (P : Plan) (x : BoxState) {known : Bool} {room : ℕ} (k : known ≡ sound P x) where
   -- refused by 1 or 2
@@ -114,16 +107,6 @@ module _ (P : Plan) (x : BoxState) {known : Bool} {room : ℕ} (k : known ≡ so
   pub stand-on : {a : Answer} → admission known room ≡ Done → a ≡ standAnswer x → Answering P x (stood P x room) (standing P x) room a
   unfolding stood
   stand-on e d = answering (stand P x) (standing P x) e (stand-is P x (sym d))
-
--- with a refusal none is written
-pub none-written : {P : Plan} (l : List Rec) {before : List ℕ} {a : Answer} {n : ℕ} → a ≡ No n
-    → Written P (unlessNo a l) before (record { used = 0; records = 0 }) before
-none-written {P} l {before} e = rw e (record { used = rw (encode-none P); records = refl; tray = rw (encode-none P) (sym (onto-nil before)) })
-
--- else those that a send of the record r writes
-pub all-written : {P : Plan} {l : List Rec} {r : Record} {before : List ℕ} {a : Answer} {s : Sent} {after : List ℕ} → a ≡ Done → Sends P l r
-    → s .used ≡ length (sentBytes P r) → s .records ≡ sentCount P r → after ≡ onto (sentBytes P r) before → Written P (unlessNo a l) before s after
-all-written e w u n t = rw e (record { used = rw (w .bytes) u; records = rw (w .count) n; tray = rw (w .bytes) t })
 
 -- records of at most 21 bytes, at most one a box, fit
 each-fits : (P : Plan) (meant : BoxNo → Bool) (f : BoxNo → Rec) → planSound P ≡ true → ((to : BoxNo) → Sized (carried (f to)) × (sizeOfRec P (f to) ≤ 21))

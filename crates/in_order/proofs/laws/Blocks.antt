@@ -16,7 +16,8 @@ use Rattle.house.specs.declared.BoxNo.{BoxNo}
 use Rattle.house.specs.Plan.{boxesOf, homeOf, sameHome}
 use Rattle.house.proofs.laws.Says.{same-home-is}
 use Rattle.house.specs.declared.Plan.{Plan}
-use Rattle.records.specs.Rec.{Rec, Handout, deliver, carried}
+use Rattle.records.specs.Rec.{Rec, deliver, carried}
+use Rattle.records.specs.declared.Handout.{Handout}
 use Rattle.boxes.specs.Box.{ownOf, rowAt}
 use Rattle.boxes.specs.Multicast.{accepts}
 use Rattle.boxes.specs.Accept.{acks}

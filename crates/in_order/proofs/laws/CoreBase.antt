@@ -17,7 +17,9 @@ use Rattle.house.specs.declared.District.{District}
 use Rattle.house.specs.Plan.{homeOf}
 use Rattle.house.proofs.laws.Says.{boxes-most, names-job}
 use Rattle.house.specs.declared.Plan.{Plan}
-use Rattle.records.specs.Rec.{Rec, Ballotpaper, NewState}
+use Rattle.records.specs.Rec.{Rec}
+use Rattle.records.specs.declared.Ballotpaper.{Ballotpaper}
+use Rattle.records.specs.declared.NewState.{NewState}
 use Rattle.world.specs.World.{World}
 use Rattle.in_order.proofs.laws.Compare.{Lower}
 use Rattle.in_order.proofs.laws.Quorate.{meets}

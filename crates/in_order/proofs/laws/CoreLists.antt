@@ -15,7 +15,11 @@ use Rattle.house.specs.Pairs.{boxNo}
 use Rattle.house.specs.declared.Ballot.{Ballot}
 use Rattle.house.specs.declared.BoxNo.{BoxNo}
 use Rattle.house.specs.declared.Plan.{Plan}
-use Rattle.records.specs.Rec.{Rec, Proposal, Handout, Ballotpaper, NewState, multicast, accept, accept-ack, deliver, newleader, newleader-ack, new-state}
+use Rattle.records.specs.Rec.{Rec, multicast, accept, accept-ack, deliver, newleader, newleader-ack, new-state}
+use Rattle.records.specs.declared.Proposal.{Proposal}
+use Rattle.records.specs.declared.Handout.{Handout}
+use Rattle.records.specs.declared.Ballotpaper.{Ballotpaper}
+use Rattle.records.specs.declared.NewState.{NewState}
 use Rattle.records.specs.Rec.{newstate-ack, unknown, carried, meaning}
 use Rattle.boxes.specs.Box.{fresh, listedAt, noListed}
 use Rattle.boxes.specs.Out.{Out, refused, does, guard}

@@ -15,7 +15,8 @@ use Rattle.house.specs.declared.BoxNo.{BoxNo}
 use Rattle.house.specs.declared.District.{District}
 use Rattle.house.specs.Plan.{boxesOf, homeOf, names}
 use Rattle.house.specs.declared.Plan.{Plan}
-use Rattle.records.specs.Rec.{Rec, NewState, new-state, carried}
+use Rattle.records.specs.Rec.{Rec, new-state, carried}
+use Rattle.records.specs.declared.NewState.{NewState}
 use Rattle.records.specs.Rules.{valid}
 use Rattle.records.proofs.laws.Obeys.{valid-rules}
 use Rattle.boxes.specs.Box.{isRecovering, listedAt}

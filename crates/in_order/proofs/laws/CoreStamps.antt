@@ -15,7 +15,8 @@ use Rattle.house.specs.declared.District.{District}
 use Rattle.house.specs.Plan.{homeOf, names}
 use Rattle.house.proofs.laws.Says.{names-job}
 use Rattle.house.specs.declared.Plan.{Plan}
-use Rattle.records.specs.Rec.{Rec, NewState}
+use Rattle.records.specs.Rec.{Rec}
+use Rattle.records.specs.declared.NewState.{NewState}
 use Rattle.world.specs.World.{World}
 use Rattle.in_order.proofs.laws.Compare.{Lower, Upto, Until, Within, strict, equal, within, Compared, under, level, over, compare, eq-le, lt-to-le}
 use Rattle.in_order.proofs.laws.Compare.{le-both}

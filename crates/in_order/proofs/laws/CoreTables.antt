@@ -16,7 +16,9 @@ use Rattle.house.specs.declared.Row.{Row}
 use Rattle.house.specs.Plan.{boxesOf, homeOf, names}
 use Rattle.house.proofs.laws.Says.{names-job}
 use Rattle.house.specs.declared.Plan.{Plan}
-use Rattle.records.specs.Rec.{Rec, Ballotpaper, NewState}
+use Rattle.records.specs.Rec.{Rec}
+use Rattle.records.specs.declared.Ballotpaper.{Ballotpaper}
+use Rattle.records.specs.declared.NewState.{NewState}
 use Rattle.world.specs.World.{World}
 use Rattle.in_order.proofs.laws.Compare.{Lower, Upto, Within, strict, equal, within, le-le, le-both, le-then-lt}
 use Rattle.in_order.proofs.laws.Quorate.{Quorate, Both, meets}

@@ -16,7 +16,11 @@ use Rattle.house.specs.declared.District.{District}
 use Rattle.house.specs.Plan.{boxesOf, homeOf}
 use Rattle.house.proofs.laws.Says.{plan-says, box-says, ballot-in-says}
 use Rattle.house.specs.declared.Plan.{Plan}
-use Rattle.records.specs.Rec.{Proposal, Handout, Ballotpaper, NewState, multicast, accept, accept-ack, deliver, newleader, newleader-ack, new-state}
+use Rattle.records.specs.Rec.{multicast, accept, accept-ack, deliver, newleader, newleader-ack, new-state}
+use Rattle.records.specs.declared.Proposal.{Proposal}
+use Rattle.records.specs.declared.Handout.{Handout}
+use Rattle.records.specs.declared.Ballotpaper.{Ballotpaper}
+use Rattle.records.specs.declared.NewState.{NewState}
 use Rattle.records.specs.Rec.{newstate-ack}
 use Rattle.records.specs.Rules.{rules}
 use Rattle.records.proofs.laws.Rows.{row-most, row-begun, both-say}

@@ -10,7 +10,9 @@ use Rattle.house.specs.declared.BoxNo.{BoxNo}
 use Rattle.house.specs.declared.District.{District}
 use Rattle.house.specs.declared.Row.{Row}
 use Rattle.house.specs.declared.Plan.{Plan}
-use Rattle.records.specs.Rec.{Rec, Ballotpaper, NewState}
+use Rattle.records.specs.Rec.{Rec}
+use Rattle.records.specs.declared.Ballotpaper.{Ballotpaper}
+use Rattle.records.specs.declared.NewState.{NewState}
 use Rattle.boxes.specs.declared.Vote.{Vote}
 use Rattle.in_order.proofs.laws.Quorate.{Quorate, quorate-map}
 use Rattle.in_order.proofs.laws.Notions.{Acc, Ack, Del, DelAt, Voted, News, NewsOf, Nsa, Joined, follows, heads, Lam, stated, asked, Timed, Stay, Acked}

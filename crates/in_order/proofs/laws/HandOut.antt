@@ -23,7 +23,8 @@ use Rattle.house.specs.declared.BoxNo.{BoxNo}
 use Rattle.house.specs.Plan.{boxesOf, sameHome}
 use Rattle.house.proofs.laws.Says.{same-home-is}
 use Rattle.house.specs.declared.Plan.{Plan}
-use Rattle.records.specs.Rec.{Rec, Handout, deliver}
+use Rattle.records.specs.Rec.{Rec, deliver}
+use Rattle.records.specs.declared.Handout.{Handout}
 use Rattle.boxes.specs.Box.{ownOf, rowAt, sentAt, putSent}
 use Rattle.boxes.specs.Ready.{isOpen, openAbove, ready, better, nextBelow, nextReady, delivers, flagged, Handing, handNext, handTurns, handOut}
 use Rattle.boxes.specs.declared.BoxState.{BoxState}

@@ -16,7 +16,9 @@ use Rattle.house.specs.Pairs.{isNoBallot}
 use Rattle.house.specs.Plan.{boxesOf, homeOf, names, planSound}
 use Rattle.house.specs.declared.Plan.{Plan}
 use Rattle.house.specs.Marks.{hasMark}
-use Rattle.records.specs.Rec.{Rec, Ballotpaper, NewState}
+use Rattle.records.specs.Rec.{Rec}
+use Rattle.records.specs.declared.Ballotpaper.{Ballotpaper}
+use Rattle.records.specs.declared.NewState.{NewState}
 use Rattle.boxes.specs.Box.{isLeader, isRecovering, sentAt, listedAt, keptBallot, keptStamp, marksAt}
 use Rattle.boxes.specs.declared.BoxState.{BoxState}
 use Rattle.boxes.specs.declared.Vote.{Vote}

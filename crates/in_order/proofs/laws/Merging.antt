@@ -27,7 +27,8 @@ use Rattle.house.specs.declared.District.{District}
 use Rattle.house.specs.declared.Row.{Row}
 use Rattle.house.specs.Plan.{boxesOf, quorumOf, homeOf, planSound}
 use Rattle.house.specs.declared.Plan.{Plan}
-use Rattle.records.specs.Rec.{Rec, NewState}
+use Rattle.records.specs.Rec.{Rec}
+use Rattle.records.specs.declared.NewState.{NewState}
 use Rattle.boxes.specs.NewleaderAck.{votesWith, votesCount}
 use Rattle.boxes.specs.Merge.{topBallot, topClock, voteRow, committedAt, acceptedAt, firstRow, mergedRow, mergedTable}
 use Rattle.boxes.specs.Box.{raised}

@@ -14,7 +14,11 @@ use Rattle.house.specs.declared.District.{District}
 use Rattle.house.specs.Plan.{boxesOf, quorumOf, homeOf, names}
 use Rattle.house.specs.declared.Plan.{Plan}
 use Rattle.house.specs.Marks.{marked}
-use Rattle.records.specs.Rec.{Rec, Proposal, Handout, Ballotpaper, NewState, accept, accept-ack, deliver, newleader, newleader-ack, new-state, newstate-ack}
+use Rattle.records.specs.Rec.{Rec, accept, accept-ack, deliver, newleader, newleader-ack, new-state, newstate-ack}
+use Rattle.records.specs.declared.Proposal.{Proposal}
+use Rattle.records.specs.declared.Handout.{Handout}
+use Rattle.records.specs.declared.Ballotpaper.{Ballotpaper}
+use Rattle.records.specs.declared.NewState.{NewState}
 use Rattle.boxes.specs.Box.{isLeader, isRecovering, ownOf, homeIn, rowAt, keptBallot, marksAt, lastStamp, onList, putMarks, putVote}
 use Rattle.boxes.specs.Sound.{sound}
 use Rattle.boxes.specs.Out.{toHome}

@@ -15,7 +15,9 @@ use Rattle.house.specs.declared.District.{District}
 use Rattle.house.specs.declared.Row.{Row}
 use Rattle.house.specs.Plan.{homeOf, names}
 use Rattle.house.specs.declared.Plan.{Plan}
-use Rattle.records.specs.Rec.{Rec, Ballotpaper, NewState, accept, accept-ack, deliver, newleader-ack, new-state, newstate-ack}
+use Rattle.records.specs.Rec.{Rec, accept, accept-ack, deliver, newleader-ack, new-state, newstate-ack}
+use Rattle.records.specs.declared.Ballotpaper.{Ballotpaper}
+use Rattle.records.specs.declared.NewState.{NewState}
 use Rattle.world.specs.World.{World, boxAt}
 use Rattle.boxes.specs.declared.BoxState.{BoxState}
 use Rattle.in_order.proofs.laws.Compare.{Upto, Until}

@@ -19,7 +19,11 @@ use Rattle.house.specs.declared.Row.{Row}
 use Rattle.house.specs.Plan.{boxesOf, quorumOf, names}
 use Rattle.house.proofs.laws.Says.{plan-says, names-job}
 use Rattle.house.specs.declared.Plan.{Plan}
-use Rattle.records.specs.Rec.{Rec, Proposal, Handout, Ballotpaper, NewState, multicast, accept, accept-ack, deliver, newleader, newleader-ack, new-state}
+use Rattle.records.specs.Rec.{Rec, multicast, accept, accept-ack, deliver, newleader, newleader-ack, new-state}
+use Rattle.records.specs.declared.Proposal.{Proposal}
+use Rattle.records.specs.declared.Handout.{Handout}
+use Rattle.records.specs.declared.Ballotpaper.{Ballotpaper}
+use Rattle.records.specs.declared.NewState.{NewState}
 use Rattle.records.specs.Rec.{newstate-ack}
 use Rattle.boxes.specs.Box.{isLeader, ownOf, homeIn, rowAt, keptBallot}
 use Rattle.boxes.specs.Multicast.{proposed, accepts}

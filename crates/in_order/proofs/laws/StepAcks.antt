@@ -21,7 +21,10 @@ use Rattle.house.specs.declared.Row.{Row}
 use Rattle.house.specs.Plan.{boxesOf, homeOf, names}
 use Rattle.house.proofs.laws.Says.{plan-says, names-job, names-district}
 use Rattle.house.specs.declared.Plan.{Plan}
-use Rattle.records.specs.Rec.{Rec, Handout, Ballotpaper, NewState}
+use Rattle.records.specs.Rec.{Rec}
+use Rattle.records.specs.declared.Handout.{Handout}
+use Rattle.records.specs.declared.Ballotpaper.{Ballotpaper}
+use Rattle.records.specs.declared.NewState.{NewState}
 use Rattle.boxes.specs.Box.{homeIn, rowAt, keptBallot, keptStamp, raised}
 use Rattle.boxes.specs.Accept.{kept, latestKept, acceptedRow, accepted}
 use Rattle.boxes.specs.Newleader.{joined, clockStamp}

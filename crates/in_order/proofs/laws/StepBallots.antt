@@ -11,7 +11,8 @@ use Rattle.house.specs.declared.Ballot.{Ballot}
 use Rattle.house.specs.declared.BoxNo.{BoxNo}
 use Rattle.house.specs.Plan.{boxesOf, homeOf}
 use Rattle.house.specs.declared.Plan.{Plan}
-use Rattle.records.specs.Rec.{Ballotpaper, NewState}
+use Rattle.records.specs.declared.Ballotpaper.{Ballotpaper}
+use Rattle.records.specs.declared.NewState.{NewState}
 use Rattle.boxes.specs.Box.{isLeader, isRecovering, ownOf}
 use Rattle.boxes.specs.Newleader.{joined, clockStamp}
 use Rattle.boxes.specs.Merge.{merged}
@@ -267,7 +268,7 @@ module _ (P : Plan) (w : World) (p : BoxNo) (known : p .0 < boxesOf P) (m : Move
       go (inl o) = joined-all (grows P w p known F m) (I .ballots .b6d o)
       go (inr n) =
           let N = del-new P w p known F m {i = n .there .place} (record { from = n .from; to = n .to; there = n .there .there }) in
-          let e : b ≡ N .y .core .cballot = ap (λ (o : Rattle.records.specs.Rec.Handout). o .ballot) (N .is) in
+          let e : b ≡ N .y .core .cballot = ap (λ (o : Rattle.records.specs.declared.Handout.Handout). o .ballot) (N .is) in
           rw e (joined-all (grows P w p known F m) (hands (N .y) (N .hand-from)))
 
   -- ---- B7

@@ -21,7 +21,9 @@ use Rattle.house.specs.declared.Row.{Row}
 use Rattle.house.specs.Plan.{boxesOf, homeOf, names}
 use Rattle.house.proofs.laws.Says.{plan-says, home-low, names-job, names-district}
 use Rattle.house.specs.declared.Plan.{Plan}
-use Rattle.records.specs.Rec.{Ballotpaper, NewState, deliver}
+use Rattle.records.specs.Rec.{deliver}
+use Rattle.records.specs.declared.Ballotpaper.{Ballotpaper}
+use Rattle.records.specs.declared.NewState.{NewState}
 use Rattle.boxes.specs.Box.{ownOf, homeIn, freshVolatile, keptAt, keptBallot}
 use Rattle.boxes.specs.Accept.{kept, accepted}
 use Rattle.boxes.specs.AcceptAck.{committed}

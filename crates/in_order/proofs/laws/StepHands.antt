@@ -23,7 +23,9 @@ use Rattle.house.specs.declared.Row.{Row}
 use Rattle.house.specs.Plan.{boxesOf, homeOf}
 use Rattle.house.proofs.laws.Says.{plan-says, names-job}
 use Rattle.house.specs.declared.Plan.{Plan}
-use Rattle.records.specs.Rec.{Rec, Handout, NewState, deliver}
+use Rattle.records.specs.Rec.{Rec, deliver}
+use Rattle.records.specs.declared.Handout.{Handout}
+use Rattle.records.specs.declared.NewState.{NewState}
 use Rattle.boxes.specs.Box.{ownOf, homeIn, rowAt, sentAt}
 use Rattle.boxes.specs.Accept.{kept, accepted}
 use Rattle.boxes.specs.AcceptAck.{committed}

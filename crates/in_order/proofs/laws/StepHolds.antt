@@ -23,7 +23,9 @@ use Rattle.house.specs.declared.Row.{Row}
 use Rattle.house.specs.Plan.{boxesOf, homeOf, names}
 use Rattle.house.proofs.laws.Says.{plan-says, names-job, names-district}
 use Rattle.house.specs.declared.Plan.{Plan}
-use Rattle.records.specs.Rec.{Rec, Ballotpaper, NewState}
+use Rattle.records.specs.Rec.{Rec}
+use Rattle.records.specs.declared.Ballotpaper.{Ballotpaper}
+use Rattle.records.specs.declared.NewState.{NewState}
 use Rattle.boxes.specs.Box.{homeIn, keptBallot, keptStamp, raised}
 use Rattle.boxes.specs.Accept.{kept, keptBelow, allKept, latestKept}
 use Rattle.boxes.specs.AcceptAck.{committed}

@@ -17,7 +17,9 @@ use Rattle.house.specs.declared.Row.{Row}
 use Rattle.house.specs.Plan.{boxesOf, homeOf}
 use Rattle.house.proofs.laws.Says.{plan-says, names-job}
 use Rattle.house.specs.declared.Plan.{Plan}
-use Rattle.records.specs.Rec.{Rec, Handout, NewState}
+use Rattle.records.specs.Rec.{Rec}
+use Rattle.records.specs.declared.Handout.{Handout}
+use Rattle.records.specs.declared.NewState.{NewState}
 use Rattle.boxes.specs.declared.Status.{Status}
 use Rattle.boxes.specs.declared.Status.the-variants.{Follower, Leader, Recovering}
 use Rattle.boxes.specs.Box.{isLeader, isRecovering, homeIn, rowAt, sentAt}

@@ -24,7 +24,8 @@ use Rattle.house.proofs.laws.Says.{plan-says, home-low, names-job, names-distri
 use Rattle.house.specs.declared.Plan.{Plan}
 use Rattle.house.specs.Marks.{noMarks, mostMarks, hasMark, marked}
 use Rattle.house.proofs.laws.Quorums.{no-mark, mark-other}
-use Rattle.records.specs.Rec.{Rec, NewState}
+use Rattle.records.specs.Rec.{Rec}
+use Rattle.records.specs.declared.NewState.{NewState}
 use Rattle.boxes.specs.Box.{homeIn, keptAt, keptBallot, keptStamp, marksAt, freshVolatile, noVote, putVote}
 use Rattle.boxes.specs.Sound.{paperOf}
 use Rattle.boxes.specs.Accept.{sameKept, kept, accepted}

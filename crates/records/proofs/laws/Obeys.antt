@@ -22,7 +22,11 @@ use Rattle.house.specs.Plan.{isBox, isOffice, isJob, homeOf, names, ballotIn, n
 use Rattle.house.specs.declared.Plan.{Plan}
 use Rattle.house.proofs.laws.Orders.{no-ballot-says, no-ballot-is}
 use Rattle.house.proofs.laws.Says.{plan-says, same-home-says, same-home-is, no-district}
-use Rattle.records.specs.Rec.{Rec, Proposal, Handout, Ballotpaper, NewState, multicast, accept, accept-ack, deliver, newleader, newleader-ack, new-state}
+use Rattle.records.specs.Rec.{Rec, multicast, accept, accept-ack, deliver, newleader, newleader-ack, new-state}
+use Rattle.records.specs.declared.Proposal.{Proposal}
+use Rattle.records.specs.declared.Handout.{Handout}
+use Rattle.records.specs.declared.Ballotpaper.{Ballotpaper}
+use Rattle.records.specs.declared.NewState.{NewState}
 use Rattle.records.specs.Rec.{newstate-ack, unknown, carried, meaning}
 use Rattle.records.specs.Rules.{clockOf, bothStamps, boxes, neighbours, others, ballotFor, ballotsFor, rules, startRow, isNoRow, spareBallots}
 use Rattle.records.specs.Rules.{spareStamps, spareRows, spare, valid}

@@ -1,34 +1,33 @@
 -- Laws of what specs/Steps.antt defines.
 use Prim.Native.Nat.{ℕ, _+_, _-_, _≤_, _<_}
-use mathlib.Core.Bool.{Bool, true, false, _&&_}
+use mathlib.Core.Bool.{true, false}
 use mathlib.Core.List.{List}
 use mathlib.Core.Path.{_≡_, refl, ap, _∙_}
 use native.Mathlib.Omega.{arith}
 use lib.ListN.{length, take, drop, getD}
 use lib.Dec.{ltb}
-use borrow.Author.Tests.{le-leb, lt-ltb, le-ltb}
+use borrow.Author.Tests.{le-leb, ltb-true}
 use Rattle.laws.specs.Choice.{pick}
-use Rattle.laws.proofs.laws.Choice.{pick-when}
-use Rattle.house.specs.Limits.{leastTray}
-use Rattle.house.specs.Plan.{boxesOf, planSound}
+use Rattle.laws.proofs.laws.Choice.{pick-when, and-right}
+use Rattle.house.specs.Limits.{mostJobs, leastTray}
+use Rattle.house.specs.Plan.{boxesOf, isJob, planSound}
+use Rattle.house.proofs.laws.Says.{plan-says}
 use Rattle.house.specs.declared.Plan.{Plan}
 use Rattle.records.specs.Answers.{notSound, smallTray, noSuch}
-use Rattle.records.specs.Bytes.{encodeAll, lengthOf}
-use Rattle.records.specs.Rec.{Rec, meaning}
+use Rattle.records.specs.Bytes.{lengthOf}
+use Rattle.records.specs.Rec.{meaning}
 use Rattle.records.specs.declared.Answer.{Answer}
 use Rattle.records.specs.declared.Answer.the-variants.{Done, No}
 use Rattle.records.specs.declared.Record.{Record}
-use Rattle.post.specs.Posting.{lengthAt, startOf, bytesFrom, toBox}
+use Rattle.post.specs.Posting.{lengthAt, startOf, bytesFrom}
 use Rattle.post.proofs.laws.Posting.{part-from}
 use Rattle.boxes.specs.Sound.{sound}
-use Rattle.boxes.specs.Out.{Out, refused, does}
-use Rattle.boxes.specs.Post.{posts}
+use Rattle.boxes.specs.Out.{Out, refused, does, under}
 use Rattle.boxes.specs.Retry.{retry}
 use Rattle.boxes.specs.Stand.{stand}
 use Rattle.boxes.specs.Promise.{wasDone, boxAfter}
 use Rattle.boxes.specs.Step.{receives, retried, stood, cutOff}
 use Rattle.boxes.specs.declared.BoxState.{BoxState}
-use Rattle.sending.specs.Sends.{Sends, sentBytes}
 use Rattle.stays_sound.proofs.laws.Sends.{Every, no-step, a-step}
 use Rattle.boxes.specs.Lengths.{Lengths}
 use Rattle.boxes.proofs.laws.Sound.{sound-is}
@@ -99,26 +98,38 @@ module _ {P : Plan} {used : ℕ} {x : BoxState} {s : List ℕ} {o : Order} {r : 
       record
       { plan-sound = p; there = h; can = c; done = d; fits = every-fits K'; is = acts-on P used x s o r p h e; stays = every-stays P x (stepOf P x o r) K' }
 
+  -- the answer is that of its box
+  pub answers : planSound P ≡ true → exists P (here used) s o ≡ true → (a : Answer) → actsOn P used x s o ≡ under a (stepOf P x o r)
+      → (a ≡ Done → Can P x o r) → wasDone (stepOf P x o r) ≡ true → Every (Keeps P x) (actsOn P used x s o) → Judges P used x s o a r
+  answers p h (No k) e c d K = judges-no k r (acts-no P used x s o k p h e)
+  answers p h Done e c d K = judges-go (goes-kept p h (c refl) d e K)
+
 -- ---- each order
+
+-- a job of the plan has a place in each array
+pub job-low : (P : Plan) (j : ℕ) → planSound P ≡ true → isJob P j ≡ true → j < mostJobs
+unfolding isJob
+job-low P j p h = omega (arith, ltb-true j (P .jobs) h, plan-says P p .jobs-most)
 
 -- post: no box is asked
 pub goes-post : (P : Plan) (used : ℕ) (x : BoxState) (s : List ℕ) (j : ℕ) (r : Record) → planSound P ≡ true → exists P (here used) s (Post j) ≡ true
-    → Sends P (posts P j) r
     → Goes P used x s (Post j) r
-unfolding actsOn
-goes-post P used x s j r p h c =
+unfolding actsOn exists
+goes-post P used x s j r p h =
     let f = posts-fit P j p in
-    record { plan-sound = p; there = h; can = c; done = refl; fits = omega arith; is = acts-on P used x s (Post j) r p h refl; stays = λ q. q }
+    record {
+      plan-sound = p;
+      there = h;
+      can = job-low P j p h;
+      done = refl;
+      fits = omega arith;
+      is = acts-on P used x s (Post j) r p h refl;
+      stays = λ q. q;
+    }
 
--- stand and cut ask whether the plan has the box, and nothing else
-module _ (P : Plan) (used : ℕ) (s : List ℕ) (p n : ℕ) (e : n ≡ boxesOf P) where
-  pub box-there : p < n → (exists P (here used) s (Stand p) ≡ true) × (exists P (here used) s (Cut p) ≡ true)
-  unfolding exists
-  box-there l = let h = lt-ltb p (boxesOf P) (omega (arith, e, l)) in (h, h)
-
-  pub box-missing : n ≤ p → (exists P (here used) s (Stand p) ≡ false) × (exists P (here used) s (Cut p) ≡ false)
-  unfolding exists
-  box-missing l = let h = le-ltb p (boxesOf P) (omega (arith, e, l)) in (h, h)
+pub retry-low : (P : Plan) (used : ℕ) (s : List ℕ) (p j : ℕ) → planSound P ≡ true → exists P (here used) s (Retry p j) ≡ true → j < mostJobs
+unfolding exists
+retry-low P used s p j h e = job-low P j h (and-right (ltb p (boxesOf P)) (isJob P j) e)
 
 -- a box that is not sound answers 1
 module _ (P : Plan) (used : ℕ) (x : BoxState) (s : List ℕ) (h : sound P x ≡ false) where
@@ -185,22 +196,13 @@ carry-judges P used x s k a r p h L J =
           (receives-every P x leastTray (bytesFrom P s (startOf P s used k)) L);
     }
 
--- the record that is carried: whether there is one, and its bytes
-module _ (P : Plan) (used : ℕ) (s : List ℕ) (k start to : ℕ) (es : start ≡ startOf P s used k) (et : to ≡ getD s (start + 3) 0) where
-  pub carry-exists : (b : ℕ) {t : Bool} → b ≡ boxesOf P → (ltb start used && ltb to b) ≡ t → exists P (here used) s (Carry k) ≡ t
-  unfolding exists toBox
-  carry-exists b eb h = rw (← es, ← et, ← eb) h
-
-  pub carry-bytes : (from end kind len : ℕ) → kind ≡ getD s (start + 1) 0 → len ≡ lengthOf P kind
-      → from ≡ pick (ltb start (length s)) start (length s) → end ≡ pick (ltb (start + len) (length s)) (start + len) (length s)
-      → take (end - from) (drop from s) ≡ bytesFrom P s (startOf P s used k)
-  unfolding bytesFrom lengthAt
-  carry-bytes from end kind len ek el ef ee = part-from s start len from end ef ee ∙ rw (el, ek, es)
+-- the bytes of the record that is carried
+pub carry-bytes : (P : Plan) (used : ℕ) (s : List ℕ) (k start from end kind len : ℕ) → start ≡ startOf P s used k
+    → kind ≡ getD s (start + 1) 0 → len ≡ lengthOf P kind
+    → from ≡ pick (ltb start (length s)) start (length s) → end ≡ pick (ltb (start + len) (length s)) (start + len) (length s)
+    → take (end - from) (drop from s) ≡ bytesFrom P s (startOf P s used k)
+unfolding bytesFrom lengthAt
+carry-bytes P used s k start from end kind len es ek el ef ee = part-from s start len from end ef ee ∙ rw (el, ek, es)
 
 pub part-up : (at n m f e : ℕ) → f ≤ m → f ≤ at → e ≡ pick (ltb (at + n) m) (at + n) m → f ≤ e
 part-up at n m f e hl ha ee = rw ee (pick-when (λ k. f ≤ k) (ltb (at + n) m) (λ h. omega arith) (λ h. hl))
-
--- what is sent fits into a tray of the least size
-pub sends-fit : {P : Plan} {l : List Rec} {r : Record} {room : ℕ} → Sends P l r → length (encodeAll P l) ≤ leastTray → room ≡ leastTray
-    → length (sentBytes P r) ≤ room
-sends-fit S f e = rw (← S .bytes, e) f

@@ -14,13 +14,16 @@ use Rattle.laws.specs.Tray.{allFor}
 use Rattle.laws.proofs.laws.Tray.{for-step}
 use Rattle.house.specs.Pairs.{boxNo}
 use Rattle.house.specs.declared.BoxNo.{BoxNo}
-use Rattle.house.specs.Plan.{boxesOf}
+use Rattle.house.specs.Marks.{hasMark, marksOf}
+use Rattle.house.specs.Plan.{boxesOf, planSound}
+use Rattle.house.proofs.laws.Quorums.{marks-pass}
+use Rattle.house.proofs.laws.Says.{boxes-most}
 use Rattle.house.specs.declared.Plan.{Plan}
 use Rattle.records.specs.Rec.{Rec, carried}
 use Rattle.records.specs.Bytes.{encode, encodeAll}
 use Rattle.records.specs.declared.Record.{Record}
 use Rattle.boxes.specs.Out.{toEach}
-use Rattle.sending.specs.Sends.{addressed, goesTo, sentTo, sentBytes, meantBelow, sentCount, Sends}
+use Rattle.sending.specs.Sends.{addressed, sentTo, sentBytes, meantBelow, sentCount, Sends}
 
 -- records one behind the other
 pub encode-append : (P : Plan) (l k : List Rec) → encodeAll P (l ++ k) ≡ encodeAll P l ++ encodeAll P k
@@ -36,40 +39,43 @@ pub encode-none : (P : Plan) → encodeAll P [] ≡ []
 unfolding encodeAll
 encode-none P = refl
 
-meant-step : (P : Plan) (r : Record) (n : ℕ) → meantBelow P r n + pick (goesTo P r (boxNo n)) 1 0 ≡ meantBelow P r (n + 1)
+meant-step : (m n : ℕ) → meantBelow m n + pick (hasMark m (boxNo n)) 1 0 ≡ meantBelow m (n + 1)
 unfolding meantBelow
-meant-step P r n = upto-step (λ (k p : ℕ). k + pick (goesTo P r (boxNo p)) 1 0) 0 n
+meant-step m n = upto-step (λ (k p : ℕ). k + pick (hasMark m (boxNo p)) 1 0) 0 n
 
 -- a box that is meant adds its record, another nothing
-pub sent-meant : (P : Plan) (r : Record) (p : ℕ) → goesTo P r (boxNo p) ≡ true
-    → (sentTo P r p ≡ encode P (addressed r (boxNo p))) × (meantBelow P r (p + 1) ≡ meantBelow P r p + 1)
+pub sent-meant : (P : Plan) (m : ℕ) (r : Record) (p : ℕ) → hasMark m (boxNo p) ≡ true
+    → (sentTo P m r p ≡ encode P (addressed r (boxNo p))) × (meantBelow m (p + 1) ≡ meantBelow m p + 1)
 unfolding sentTo
-sent-meant P r p e = (pick-true (encode P (addressed r (boxNo p))) [] e, sym (meant-step P r p) ∙ rw (pick-true {A = ℕ} 1 0 e))
+sent-meant P m r p e = (pick-true (encode P (addressed r (boxNo p))) [] e, sym (meant-step m p) ∙ rw (pick-true {A = ℕ} 1 0 e))
 
-pub sent-spared : (P : Plan) (r : Record) (p : ℕ) → goesTo P r (boxNo p) ≡ false
-    → (allFor (sentTo P r) (p + 1) ≡ allFor (sentTo P r) p) × (meantBelow P r (p + 1) ≡ meantBelow P r p)
+pub sent-spared : (P : Plan) (m : ℕ) (r : Record) (p : ℕ) → hasMark m (boxNo p) ≡ false
+    → (allFor (sentTo P m r) (p + 1) ≡ allFor (sentTo P m r) p) × (meantBelow m (p + 1) ≡ meantBelow m p)
 unfolding sentTo
-sent-spared P r p e = (
-  sym (for-step (sentTo P r) p) ∙ rw (pick-false (encode P (addressed r (boxNo p))) [] e) (append-nil (allFor (sentTo P r) p)),
-  sym (meant-step P r p) ∙ rw (pick-false {A = ℕ} 1 0 e) (add-zero (meantBelow P r p)),
+sent-spared P m r p e = (
+  sym (for-step (sentTo P m r) p) ∙ rw (pick-false (encode P (addressed r (boxNo p))) [] e) (append-nil (allFor (sentTo P m r) p)),
+  sym (meant-step m p) ∙ rw (pick-false {A = ℕ} 1 0 e) (add-zero (meantBelow m p)),
 )
 
--- a record that is r but for the box that it names goes to the same boxes, and becomes the same when it names another
-pub goes-same : (P : Plan) (r q : Record) (p : BoxNo) → q ≡ addressed r (q .to) → goesTo P q p ≡ goesTo P r p
-unfolding goesTo addressed
-goes-same P r q p e = ap (λ (k : Record). goesTo P k p) e
-
+-- a record that is r but for the box that it names becomes the same when it names another
 pub addressed-same : (r q : Record) (p : BoxNo) → q ≡ addressed r (q .to) → addressed q p ≡ addressed r p
 unfolding addressed
 addressed-same r q p e = ap (λ (k : Record). addressed k p) e
 
--- a list made box by box is sent box by box, if the same boxes are meant and each gets the same record
-module _ (P : Plan) (meant : BoxNo → Bool) (f : BoxNo → Rec) (r : Record)
-    (who : (p : ℕ) → p < boxesOf P → meant (boxNo p) ≡ goesTo P r (boxNo p)) (what : (p : BoxNo) → carried (f p) ≡ addressed r p) where
+-- a list made box by box is sent box by box, if each box gets the same record
+module _ (P : Plan) (s : planSound P ≡ true) (meant : BoxNo → Bool) (f : BoxNo → Rec) (r : Record)
+    (what : (p : BoxNo) → carried (f p) ≡ addressed r p) where
   made : ℕ → List Rec
   made n = upto (λ l p. l ++ pick (meant (boxNo p)) (f (boxNo p) ∷ []) []) [] n
 
-  bytes-below : (n : ℕ) → n ≤ boxesOf P → encodeAll P (made n) ≡ allFor (sentTo P r) n
+  marks : ℕ
+  marks = marksOf meant (boxesOf P)
+
+  who : (p : ℕ) → p < boxesOf P → meant (boxNo p) ≡ hasMark marks (boxNo p)
+  unfolding marks
+  who p h = let few = boxes-most P s in sym (marks-pass meant (boxesOf P) p h (omega arith))
+
+  bytes-below : (n : ℕ) → n ≤ boxesOf P → encodeAll P (made n) ≡ allFor (sentTo P marks r) n
   unfolding allFor made sentTo
   bytes-below zero h = encode-none P
   bytes-below (suc n) h =
@@ -84,13 +90,13 @@ module _ (P : Plan) (meant : BoxNo → Bool) (f : BoxNo → Rec) (r : Record)
         who n (omega arith),
       )
 
-  count-below : (n : ℕ) → n ≤ boxesOf P → length (made n) ≡ meantBelow P r n
+  count-below : (n : ℕ) → n ≤ boxesOf P → length (made n) ≡ meantBelow marks n
   unfolding made meantBelow
   count-below zero h = refl
   count-below (suc n) h =
       length-append (made n) (pick (meant (boxNo n)) (f (boxNo n) ∷ []) [])
       ∙ rw (count-below n (omega arith), pick-ap (length {A = Rec}) (meant (boxNo n)) (f (boxNo n) ∷ []) [], who n (omega arith))
 
-  pub each-sends : Sends P (toEach P meant f) r
-  unfolding toEach made sentBytes sentCount
+  pub each-sends : Sends P (toEach P meant f) (marksOf meant (boxesOf P)) r
+  unfolding toEach made marks sentBytes sentCount
   each-sends = record { bytes = bytes-below (boxesOf P) (omega arith); count = count-below (boxesOf P) (omega arith) }

@@ -19,7 +19,11 @@ use Rattle.house.specs.Plan.{sizeOf, boxesOf, isJob, homeOf, names, planSound}
 use Rattle.house.proofs.laws.Says.{boxes-most, names-job}
 use Rattle.house.specs.declared.Plan.{Plan}
 use Rattle.records.specs.Format.{hasJob, entry}
-use Rattle.records.specs.Rec.{Rec, Proposal, Handout, Ballotpaper, NewState, multicast, accept, accept-ack, deliver, newleader, newleader-ack, new-state}
+use Rattle.records.specs.Rec.{Rec, multicast, accept, accept-ack, deliver, newleader, newleader-ack, new-state}
+use Rattle.records.specs.declared.Proposal.{Proposal}
+use Rattle.records.specs.declared.Handout.{Handout}
+use Rattle.records.specs.declared.Ballotpaper.{Ballotpaper}
+use Rattle.records.specs.declared.NewState.{NewState}
 use Rattle.records.specs.Rec.{newstate-ack, unknown, carried, senderOf, addresseeOf}
 use Rattle.records.specs.Bytes.{encode, encodeAll}
 use Rattle.records.specs.declared.Record.{Record}

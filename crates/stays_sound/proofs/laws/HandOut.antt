@@ -21,7 +21,8 @@ use Rattle.house.specs.Pairs.{noRow, ballotOf}
 use Rattle.house.specs.Plan.{sizeOf, homeOf, sameHome}
 use Rattle.house.proofs.laws.Says.{plan-says, same-home-says}
 use Rattle.house.specs.declared.Plan.{Plan}
-use Rattle.records.specs.Rec.{Rec, Handout, deliver}
+use Rattle.records.specs.Rec.{Rec, deliver}
+use Rattle.records.specs.declared.Handout.{Handout}
 use Rattle.records.proofs.laws.Rows.{row-done}
 use Rattle.boxes.specs.Box.{ownOf, rowAt}
 use Rattle.boxes.specs.Ready.{ready, better, nextBelow, nextReady, delivers, flagged, Handing, handNext, handTurns, handOut}

@@ -1,7 +1,7 @@
 -- Kinds 1 to 4 keep a box sound and send good records: a job is proposed, accepted, committed, delivered.
 -- Phase 3 keeps its row in kind 2; a commit's stamps both come from the kept ones.
 use Prim.Native.Nat.{ℕ, zero, suc, _+_, _-_, _≤_, _<_}
-use mathlib.Core.Bool.{Bool, true, false, not, _&&_, _||_}
+use mathlib.Core.Bool.{true, false, not, _||_}
 use mathlib.Core.List.{List}
 use mathlib.Core.Logic.{inl, inr, _≢_}
 use mathlib.Core.Path.{_≡_, refl, sym, ap, _∙_}
@@ -25,12 +25,14 @@ use Rattle.house.specs.Plan.{homeOf, names, stampNamed}
 use Rattle.house.proofs.laws.Says.{plan-says, box-says, home-low, names-job, names-district, stamp-named-says, ballot-in-says}
 use Rattle.house.specs.declared.Plan.{Plan}
 use Rattle.house.specs.Marks.{noMarks, marked}
-use Rattle.records.specs.Rec.{Proposal, Handout, accept, accept-ack}
+use Rattle.records.specs.Rec.{accept, accept-ack}
+use Rattle.records.specs.declared.Proposal.{Proposal}
+use Rattle.records.specs.declared.Handout.{Handout}
 use Rattle.records.specs.Bytes.{encodeAll}
 use Rattle.records.specs.Rules.{bothStamps}
 use Rattle.boxes.specs.Box.{isLeader, ownOf, homeIn, rowAt, listedAt, keptBallot, keptStamp, marksAt, lastStamp, onList, raised}
 use Rattle.boxes.specs.Multicast.{proposed, accepts, onMulticast}
-use Rattle.boxes.specs.Accept.{sameKept, kept, keptBelow, allKept, latestKept, acceptedRow, accepted, keptFor, keptVector, acks, whenKept, onAccept}
+use Rattle.boxes.specs.Accept.{sameKept, kept, keptBelow, allKept, latestKept, acceptedRow, accepted, keptFor, keptVector, keptLeader, acks, whenKept, onAccept}
 use Rattle.boxes.specs.AcceptAck.{agreeBelow, agree, enough, committed, whenMarked, onAcceptAck}
 use Rattle.boxes.specs.Deliver.{delivered, onDeliver}
 use Rattle.boxes.specs.declared.BoxState.{BoxState}
@@ -53,10 +55,6 @@ use Rattle.stays_sound.proofs.laws.HandOut.{hand-out-keeps}
 -- a job that names a district has a place in each array
 low-job : {P : Plan} {x : BoxState} → Fine P x → (j : ℕ) (d : District) → names P j d ≡ true → j < mostJobs
 low-job {P} F j d n = let m = plan-says P (F .sound .plan) .jobs-most in omega (arith, names-job P j d n)
-
--- the box of a kept ballot
-abbrev keptBox : Plan → BoxState → ℕ → BoxNo → Bool
-keptBox P x j p = names P j (homeOf P p) && eqb (keptBallot x j (homeOf P p) .owner .0) (p .0)
 
 -- what its ACCEPTs say
 abbrev proposalOf : BoxState → ℕ → Proposal
@@ -173,10 +171,10 @@ module _ {P : Plan} {x : BoxState} (F : Fine P x) where
   vector-size j = refl
 
   acks-good : (j : ℕ) → names P j (homeOf P (x .core .own)) ≡ true → keptBelow P x j (P .districts) ≡ true → AllGood P (x .core .own) (acks P x j)
-  unfolding acks
+  unfolding acks keptLeader
   acks-good j n k =
       let S = F .sound in
-      good-each (keptBox P x j) (λ to. accept-ack (ownOf x) to j (keptVector P x j))
+      good-each (keptLeader P x j) (λ to. accept-ack (ownOf x) to j (keptVector P x j))
       (λ to h q.
       good-ack
       (S .plan)
@@ -189,7 +187,7 @@ module _ {P : Plan} {x : BoxState} (F : Fine P x) where
   unfolding acks
   acks-fit j G =
       let m = plan-says P (F .sound .plan) .districts-most in
-      fits-each (keptBox P x j) (λ to. accept-ack (ownOf x) to j (keptVector P x j)) (F .sound .plan) G (λ to. omega arith)
+      fits-each (keptLeader P x j) (λ to. accept-ack (ownOf x) to j (keptVector P x j)) (F .sound .plan) G (λ to. omega arith)
 
 -- the table and the clock are no part of what is kept
 kept-still : (P : Plan) (x : BoxState) (j n : ℕ) → keptBelow P (accepted P x j) j n ≡ keptBelow P x j n

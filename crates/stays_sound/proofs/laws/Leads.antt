@@ -20,7 +20,9 @@ use Rattle.house.specs.declared.District.{District}
 use Rattle.house.specs.Plan.{boxesOf, quorumOf, isBox, homeOf, sameHome, ballotIn, noneOrIn, planSound}
 use Rattle.house.proofs.laws.Says.{plan-says, box-says, ballot-in-is, same-home-says}
 use Rattle.house.specs.declared.Plan.{Plan}
-use Rattle.records.specs.Rec.{Ballotpaper, NewState, new-state, newstate-ack}
+use Rattle.records.specs.Rec.{new-state, newstate-ack}
+use Rattle.records.specs.declared.Ballotpaper.{Ballotpaper}
+use Rattle.records.specs.declared.NewState.{NewState}
 use Rattle.records.specs.Rules.{clockOf}
 use Rattle.records.specs.Bytes.{encodeAll}
 use Rattle.boxes.specs.Box.{ownOf, noVote, putVote}

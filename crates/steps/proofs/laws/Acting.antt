@@ -8,14 +8,13 @@ use lib.Dec.{eqb}
 use borrow.Author.Tests.{ltb-true, eq-eqb, le-leb}
 use Rattle.laws.proofs.laws.Choice.{never}
 use Rattle.laws.proofs.laws.Fold.{some-is}
-use Rattle.house.specs.Limits.{leastTray}
+use Rattle.house.specs.Limits.{mostJobs, leastTray}
 use Rattle.house.specs.Pairs.{stampLt, sameBallot}
-use Rattle.house.specs.declared.Ballot.{Ballot}
+use Rattle.records.specs.declared.Handout.{Handout}
 use Rattle.house.specs.Plan.{isJob, isBox, homeOf, names, planSound}
 use Rattle.house.proofs.laws.Says.{plan-says, box-says, home-low}
 use Rattle.house.specs.declared.Plan.{Plan}
 use Rattle.house.specs.declared.BoxNo.{BoxNo}
-use Rattle.house.specs.declared.Stamp.{Stamp}
 use Rattle.records.specs.Answers.{notSound, smallTray, brokenRule, otherBox}
 use Rattle.records.specs.Bytes.{encodeAll}
 use Rattle.records.specs.Format.{mostKind}
@@ -102,9 +101,10 @@ unfolding onList
 on-list x j i l e = some-is (λ k. eqb (listedAt x k .job) j) (x .core .count) i l (eq-eqb (listedAt x i .job) j e)
 
 -- so a DELIVER that is not refused has room there
-pub room-listed : (P : Plan) (x : BoxState) (j : ℕ) (b : Ballot) (g : Stamp) → SoundBox P x → deliverAnswer P x j b g ≡ Done → x .core .count < 64
+pub room-listed : (P : Plan) (x : BoxState) (j : ℕ) (y : Handout) → SoundBox P x → deliverAnswer P x j y ≡ Done → x .core .count < mostJobs
 unfolding listedAt
-room-listed P x j b g S h =
+room-listed P x j y S h =
     let ready = not (isRecovering (x .core .status)) in
-    let n = named-new (names P j (homeIn P x)) ready (sameBallot b (x .core .cballot)) (stampLt (lastStamp x) g) (onList x j) h in
+    let n =
+    named-new (names P j (homeIn P x)) ready (sameBallot (y .ballot) (x .core .cballot)) (stampLt (lastStamp x) (y .global)) (onList x j) h in
     list-room (S .plan) (S .list) (n .0) (λ i l e. never (on-list x j i l e) (n .1))

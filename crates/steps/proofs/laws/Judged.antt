@@ -71,7 +71,7 @@ module _ (P : Plan) (x : BoxState) (r : Record) where
   unfolding judged
   judged-3 e = ap (judged P x) (says-accept-ack r e)
 
-  pub judged-4 : r .kind ≡ 4 → judged P x (meaning r) ≡ deliverAnswer P x (r .job) (ballotNo r 0) (stampNo r 1)
+  pub judged-4 : r .kind ≡ 4 → judged P x (meaning r) ≡ deliverAnswer P x (r .job) (record { ballot = ballotNo r 0; local = stampNo r 0; global = stampNo r 1 })
   unfolding judged
   judged-4 e = ap (judged P x) (says-deliver r e)
 

@@ -22,11 +22,6 @@ returns-5 c =
     let if3-taken = c .before .before .if3 .taken in
     let if2-taken = c .before .before .before .if2 .taken in
     let if1-taken = c .before .before .before .before .if1 .taken in
-    let if5-left = if5-left in
-    let if4-taken = if4-taken in
-    let if3-taken = if3-taken in
-    let if2-taken = if2-taken in
-    let if1-taken = if1-taken in
     rw (if1-taken, if2-taken, if3-taken, if4-taken, if5-left)
 
 pub in-order-spec : {M : Type 1} → statement M

@@ -35,7 +35,6 @@ returns c =
     let if1-taken = c .if1 .taken in
     let loop-test-taken = c .before .loop-test .taken in
     let a = c .before .before .before .before .before .args in
-    let if1-taken = if1-taken in
     let l = c .before .before .loop in
     rw (l .inv .1) (jobs-end (a .x .core .list) (a .job) (l .i) (a .x .core .count)
     (omega (arith, l .inv .2, if1-taken)) (loop-test-taken))

@@ -20,7 +20,6 @@ returns c =
     let if1-taken = c .before .before .if1 .taken in
     let plan-sound-says = c .before .before .before .plan-sound .ensures in
     let a = c .before .before .before .before .args in
-    let if1-taken = if1-taken in
     let q = c .put-report in
     let v : soundReport (a .plan) (a .night) ≡ nightReport (a .plan) (a .night) = sym (pick-true _ _ (sym (plan-sound-says) ∙ if1-taken)) in
     record { used = q .ensures .1 ∙ ap length v; text = q .ensures .2 ∙ ap (λ (l : List ℕ). onto l (a .t .now)) v }

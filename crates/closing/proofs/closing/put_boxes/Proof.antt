@@ -47,7 +47,6 @@ unfolding boxReport boxIn
 loop-again c =
     let with-box-says = c .with-box .ensures in
     let at-6 = c .before .before .before .before .before .before in
-    let at-6 = at-6 in
     let at-7 = at-6 .before in
     let at-11 = at-7 .before .before .before .before in
     let b = at-11 in

@@ -12,8 +12,8 @@ unfolding ballotFits
 returns c =
     let same-ballot-says = c .same-ballot .ensures in
     let if1-taken = c .before .before .before .if1 .taken in
-    let home-in-says = c .before .before .before .before .before .before .home-in .ensures in
-    let if1-taken = if1-taken in
+    let at-4 = c .before .before .before .before in
+    let home-in-says = at-4 .before .before .before .home-in .ensures in
     same-ballot-says ∙ sym (pick-true _ _ (rw (home-in-says) at (eq-eqb _ _ (if1-taken))))
 
 returns-2 : tie.Need-returns-2
@@ -22,8 +22,7 @@ returns-2 c =
     let ballot-below-says = c .ballot-below .ensures in
     let kept-ballot-says = c .before .kept-ballot .ensures in
     let if1-left = c .before .before .if1 .left in
-    let home-in-says = c .before .before .before .before .before .home-in .ensures in
-    let if1-left = if1-left in
+    let home-in-says = c .before .before .before .before .before .before .home-in .ensures in
     rw (ballot-below-says, kept-ballot-says) (sym (pick-false _ _ (rw (home-in-says) at (ne-eqb _ _ (if1-left)))))
 
 pub ballot-fits-spec : {M : Type 1} → statement M

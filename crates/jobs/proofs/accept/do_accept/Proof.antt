@@ -14,7 +14,7 @@ when-kept-requires c κs =
     let home-of-says = c .before .before .home-of .ensures in
     let a = c .before .before .before .before .args in
     let p = c .before .before .before .before .pre in
-    let v = accept-is (a .plan) (a .x) (a .from) (a .job) (record { ballot = a .b; stamp = a .s }) (p .4) in
+    let v = accept-is (a .plan) (a .x) (a .from) (a .job) (a .y) (p .4) in
     (p .0, p .1, rw (keep-says, home-of-says) (rw v at (p .3)))
 
 returns : tie.Need-returns
@@ -23,7 +23,7 @@ returns c =
     let at-5 = at-4 .before in
     let a = at-5 .before .before .args in
     let p = at-5 .before .before .pre in
-    let v = accept-is (a .plan) (a .x) (a .from) (a .job) (record { ballot = a .b; stamp = a .s }) (p .4) in
+    let v = accept-is (a .plan) (a .x) (a .from) (a .job) (a .y) (p .4) in
     let k = at-4 .keep in let q = c .before .before .when-kept in
     let h = at-5 .home-of in
     let f = kept-result (a .plan) (k .result) (k .result) (a .x) (a .job) in

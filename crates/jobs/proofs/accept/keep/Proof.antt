@@ -7,7 +7,9 @@ use Rattle.jobs.proofs.accept.keep.Tie as tie
 
 returns : tie.Need-returns
 unfolding kept
-returns c = c .put-kept .ensures ∙ rw (c .before .marks-after .ensures, c .before .before .marks-at .ensures, c .before .before .before .same-kept .ensures)
+returns c =
+    let m = c .before .before .before in
+    c .put-kept .ensures ∙ rw (m .marks-after .ensures, m .before .marks-at .ensures, m .before .before .same-kept .ensures)
 
 pub keep-spec : {M : Type 1} → statement M
 keep-spec =

@@ -1,71 +1,70 @@
 -- `jobs::accept::when_kept` meets its contract.
 use mathlib.Core.List.{[]}
 use Rattle.jobs.proofs.laws.Steps.{sent-acks}
+use Rattle.sending.specs.Sends.{Sends}
 use Rattle.sending.proofs.laws.Sends.{encode-none}
 use Rattle.boxes.specs.declared.Delivery.the-variants.{Nothing}
 use Rattle.boxes.specs.Accept.{accepted, acks, whenKept}
 use Rattle.boxes.specs.Out.{does}
 use Rattle.laws.proofs.laws.Tray.{onto-nil}
 use Rattle.laws.proofs.laws.Choice.{pick-true, pick-false}
-use mathlib.Core.Path.{sym, _∙_}
+use mathlib.Core.Path.{_≡_, sym, _∙_}
 use borrow.Author.Needs.{needs}
 use Rattle.jobs.proofs.accept.when_kept.Statement.{statement}
 use Rattle.jobs.proofs.accept.when_kept.Tie as tie
 
-send-requires : tie.Need-send-requires
+kept-leaders-requires : tie.Need-kept-leaders-requires
+kept-leaders-requires c κs =
+    let at-6 = c .before .before .before .before .before .before in
+    at-6 .before .pre .0
+
+-- the records are those that a send of this one writes
+sent : (c : tie.After-kept-leaders) → let at-6 = c .before .before .before .before .before .before in
+    let a = at-6 .before .before .args in
+    let y = c .before .before .before .before .accept .result in
+    Sends (a .plan) (acks (a .plan) y (a .job)) (c .kept-leaders .result) (c .before .ack-record .result)
+sent c =
+    let at-6 = c .before .before .before .before .before .before in
+    let s = at-6 .before .before in
+    rw (c .kept-leaders .ensures, c .before .ack-record .ensures)
+    (sent-acks (s .args .plan) (s .pre .0) (s .args .job) (c .before .before .before .before .accept .result))
+
+-- all are kept: the job is accepted
+accepts : (c : tie.After-kept-leaders) → let at-6 = c .before .before .before .before .before .before in
+    let a = at-6 .before .before .args in let y = c .before .before .before .before .accept .result in
+    whenKept (a .plan) (a .x) (a .job) ≡ does y (acks (a .plan) y (a .job)) Nothing
 unfolding whenKept
-send-requires c κs =
-    let ack-record-says = c .before .ack-record .ensures in
+accepts c =
     let accept-says = c .before .before .before .before .accept .ensures in
     let if1-taken = c .before .before .before .before .before .if1 .taken in
     let at-6 = c .before .before .before .before .before .before in
-    let if1-taken = if1-taken in
-    let at-6 = at-6 in
-    let all-kept-says = at-6 .all-kept .ensures in
-    let a = at-6 .before .before .args in
-    let asked = at-6 .before .before .pre in
-    let v =
-    pick-true
-    (does (accepted (a .plan) (a .x) (a .job)) (acks (a .plan) (accepted (a .plan) (a .x) (a .job)) (a .job)) Nothing)
-    (does (a .x) [] Nothing)
-    (sym (all-kept-says) ∙ if1-taken) in
-    let w = sent-acks (a .plan) (accepted (a .plan) (a .x) (a .job)) (a .job) (asked .0) in
-    (asked .0, rw (ack-record-says, accept-says, ← w .bytes) (rw v at (asked .2)))
+    rw accept-says (pick-true _ _ (sym (at-6 .all-kept .ensures) ∙ if1-taken))
+
+done-sending-requires : tie.Need-done-sending-requires
+done-sending-requires c κs =
+    let at-6 = c .before .before .before .before .before .before in
+    let asked = at-6 .before .before .before .pre in
+    (asked .0, (_, sent (c .before), rw (accepts (c .before)) at (asked .2)))
 
 returns : tie.Need-returns
-unfolding whenKept
 returns c =
-    let at-4 = c .before .before .before .before in
-    let ack-record-says = at-4 .ack-record .ensures in
-    let accept-says = at-4 .before .before .before .accept .ensures in
-    let if1-taken = at-4 .before .before .before .before .if1 .taken in
-    let at-9 = at-4 .before .before .before .before .before in
-    let all-kept-says = at-9 .all-kept .ensures in
-    let a = at-9 .before .before .args in
-    let asked = at-9 .before .before .pre in
-    let v =
-    pick-true
-    (does (accepted (a .plan) (a .x) (a .job)) (acks (a .plan) (accepted (a .plan) (a .x) (a .job)) (a .job)) Nothing)
-    (does (a .x) [] Nothing)
-    (sym (all-kept-says) ∙ if1-taken) in
-    let w = sent-acks (a .plan) (accepted (a .plan) (a .x) (a .job)) (a .job) (asked .0) in
-    let q = c .before .before .send in (
-      rw (v, q .ensures .0, q .ensures .1, ack-record-says, accept-says, w .bytes, w .count),
-      rw (v, w .bytes, ← accept-says, ← ack-record-says) (q .ensures .2),
-    )
+    let m = c .before .before .before .before in
+    let q = c .before .before .done-sending .ensures _ (sent m) in
+    (rw (accepts m) (q .0), rw (accepts m) (q .1))
 
 returns-2 : tie.Need-returns-2
 unfolding whenKept
 returns-2 c =
-    let if1-left = c .if1 .left in
-    let all-kept-says = c .before .all-kept .ensures in
-    let a = c .before .before .before .args in
+    let done-says = c .done .ensures in
+    let if1-left = c .before .if1 .left in
+    let all-kept-says = c .before .before .all-kept .ensures in
+    let a = c .before .before .before .before .args in
     let v =
     pick-false
     (does (accepted (a .plan) (a .x) (a .job)) (acks (a .plan) (accepted (a .plan) (a .x) (a .job)) (a .job)) Nothing)
     (does (a .x) [] Nothing)
     (sym (all-kept-says) ∙ if1-left) in
-    (rw (v, encode-none (a .plan)), rw (v, encode-none (a .plan)) (sym (onto-nil (a .tray .now))))
+    (done-says ∙ rw (v, encode-none (a .plan)), rw (v, encode-none (a .plan)) (sym (onto-nil (a .tray .now))))
 
 pub when-kept-spec : {M : Type 1} → statement M
 when-kept-spec =
@@ -74,7 +73,9 @@ when-kept-spec =
     (λ c κs. search needs)
     (λ c κs. search needs)
     (λ c κs. search needs)
-    send-requires
+    kept-leaders-requires
+    done-sending-requires
     (λ c. search needs)
     returns
+    (λ c κs. search needs)
     returns-2)

@@ -32,7 +32,6 @@ loop-again c =
     let kept-ballot-says = c .before .before .kept-ballot .ensures in
     let ballot-at-says = c .before .before .before .ballot-at .ensures in
     let at-5 = c .before .before .before .before .before in
-    let at-5 = at-5 in
     let a = at-5 .before .args in
     let l = at-5 .loop in (
       omega arith,

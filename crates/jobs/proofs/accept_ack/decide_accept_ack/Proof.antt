@@ -12,7 +12,6 @@ returns c =
     let row-at-says = c .before .before .before .before .row-at .ensures in
     let all-agree-says = c .before .before .before .before .before .all-agree .ensures in
     let at-6 = c .before .before .before .before .before .before in
-    let at-6 = at-6 in
     let is-leader-says = at-6 .is-leader .ensures in
     let named-says = at-6 .before .named .ensures in
     let home-in-says = at-6 .before .before .home-in .ensures in

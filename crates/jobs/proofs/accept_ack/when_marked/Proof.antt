@@ -19,7 +19,6 @@ hand-out-requires c κs =
     let is-enough-says = c .before .before .before .before .is-enough .ensures in
     let a = c .before .before .before .before .before .before .args in
     let asked = c .before .before .before .before .before .before .pre in
-    let if1-taken = if1-taken in
     let y = c .before .before .commit in
     let v = pick-true (handing (handOut (a .plan) (committed (a .plan) (a .x) (a .job)))) (does (a .x) [] Nothing) (sym (is-enough-says) ∙ if1-taken) in
     (asked .0, (y .result .volatile, rw (y .ensures) (rw v at (asked .2))))
@@ -27,30 +26,41 @@ hand-out-requires c κs =
 returns : tie.Need-returns
 unfolding whenMarked
 returns c =
-    let put-sent-result = c .put-sent .result in
-    let put-sent-says = c .put-sent .ensures in
-    let at-4 = c .before .before .before .before in
-    let hand-out-says = at-4 .hand-out .ensures in
-    let at-7 = at-4 .before .before .before in
-    let if1-taken = at-7 .before .if1 .taken in
-    let is-enough-says = at-7 .before .before .is-enough .ensures in
-    let a = at-7 .before .before .before .before .args in
-    let y = at-7 .commit in
+    let done-says = c .done .ensures in
+    let put-sent-result = c .before .put-sent .result in
+    let put-sent-says = c .before .put-sent .ensures in
+    let at-5 = c .before .before .before .before .before in
+    let hand-out-says = at-5 .hand-out .ensures in
+    let at-8 = at-5 .before .before .before in
+    let if1-taken = at-8 .before .if1 .taken in
+    let is-enough-says = at-8 .before .before .is-enough .ensures in
+    let a = at-8 .before .before .before .before .args in
+    let y = at-8 .commit in
     let v = pick-true (handing (handOut (a .plan) (committed (a .plan) (a .x) (a .job)))) (does (a .x) [] Nothing) (sym (is-enough-says) ∙ if1-taken) in
     let q = hand-out-says (y .result .volatile) in
     let z : put-sent-result ≡ handOut (a .plan) (y .result) .box = put-sent-says ∙ q .0 in
-    (rw (v, z, q .1, q .2, y .ensures), rw (v, ← y .ensures) (q .3))
+    (done-says ∙ rw (v, z, q .1, q .2, y .ensures), rw (v, ← y .ensures) (q .3))
 
 returns-2 : tie.Need-returns-2
 unfolding whenMarked
 returns-2 c =
-    let if1-left = c .if1 .left in
-    let is-enough-says = c .before .is-enough .ensures in
-    let a = c .before .before .before .args in
+    let done2-says = c .done2 .ensures in
+    let if1-left = c .before .if1 .left in
+    let is-enough-says = c .before .before .is-enough .ensures in
+    let a = c .before .before .before .before .args in
     let v = pick-false (handing (handOut (a .plan) (committed (a .plan) (a .x) (a .job)))) (does (a .x) [] Nothing) (sym (is-enough-says) ∙ if1-left) in
-    (rw (v, encode-none (a .plan)), rw (v, encode-none (a .plan)) (sym (onto-nil (a .tray .now))))
+    (done2-says ∙ rw (v, encode-none (a .plan)), rw (v, encode-none (a .plan)) (sym (onto-nil (a .tray .now))))
 
 pub when-marked-spec : {M : Type 1} → statement M
 when-marked-spec =
     tie.close
-    (tie.spec (λ c κs. search needs) (λ c κs. search needs) hand-out-requires (λ c κs. search needs) (λ c. search needs) returns returns-2)
+    (tie.spec
+    (λ c κs. search needs)
+    (λ c κs. search needs)
+    hand-out-requires
+    (λ c κs. search needs)
+    (λ c κs. search needs)
+    (λ c. search needs)
+    returns
+    (λ c κs. search needs)
+    returns-2)

@@ -11,11 +11,10 @@ returns c =
     let stamp-below-says = c .before .before .stamp-below .ensures in
     let last-stamp-says = c .before .before .before .last-stamp .ensures in
     let same-ballot-says = c .before .before .before .before .same-ballot .ensures in
-    let is-recovering-says = c .before .before .before .before .before .is-recovering .ensures in
     let at-6 = c .before .before .before .before .before .before in
-    let at-6 = at-6 in
-    let named-says = at-6 .named .ensures in
-    let home-in-says = at-6 .before .home-in .ensures in
+    let is-recovering-says = at-6 .before .is-recovering .ensures in
+    let named-says = at-6 .before .before .named .ensures in
+    let home-in-says = at-6 .before .before .before .home-in .ensures in
     in-order-says
     ∙ rw (on-list-says, stamp-below-says, last-stamp-says, same-ballot-says, is-recovering-says, named-says, home-in-says)
 

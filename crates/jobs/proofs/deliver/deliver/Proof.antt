@@ -6,7 +6,7 @@ use Rattle.jobs.proofs.deliver.deliver.Statement.{statement}
 use Rattle.jobs.proofs.deliver.deliver.Tie as tie
 
 put-listed-requires : tie.Need-put-listed-requires
-put-listed-requires c κs = rw (c .put-row .ensures) (c .before .before .before .pre .1)
+put-listed-requires c κs = rw (c .put-row .ensures) (c .before .before .before .before .before .pre .1)
 
 returns : tie.Need-returns
 unfolding delivered

@@ -18,7 +18,6 @@ returns-2 c =
     let no-stamp-says = c .before .no-stamp .ensures in
     let home-in-says = c .before .before .home-in .ensures in
     let at-5 = c .before .before .before .before .before in
-    let at-5 = at-5 in
     let if1-taken = at-5 .if1 .taken in
     let row-at-says = at-5 .before .before .row-at .ensures in
     put-row-says ∙ rw (no-stamp-says, home-in-says) (sym (pick-true _ _ (rw (row-at-says) at (eq-eqb _ _ (if1-taken)))))

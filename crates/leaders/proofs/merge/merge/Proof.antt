@@ -14,7 +14,6 @@ returns c =
     let put-sent-says = c .before .before .before .put-sent .ensures in
     let put-table-says = c .before .before .before .before .put-table .ensures in
     let at-6 = c .before .before .before .before .before .before in
-    let at-6 = at-6 in
     let m = at-6 .merge-votes in
     put-vote-says
     ∙ rw (put-mode-says, put-sent-says, put-table-says, m .ensures .0, m .ensures .1, no-vote-says)

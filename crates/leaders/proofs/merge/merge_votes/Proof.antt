@@ -13,7 +13,6 @@ returns c =
     let if1-taken = c .before .if1 .taken in
     let a = c .before .before .before .before .before .before .args in
     let asked = c .before .before .before .before .before .before .pre in
-    let if1-taken = if1-taken in
     rw (with-held (a .old) (a .new) (asked .0) ∙ pick-true _ _ (lt-ltb _ _ (if1-taken))) (merge-two-says)
 
 returns-2 : tie.Need-returns-2
@@ -22,7 +21,6 @@ returns-2 c =
     let if1-left = c .before .if1 .left in
     let a = c .before .before .before .before .before .before .args in
     let asked = c .before .before .before .before .before .before .pre in
-    let if1-left = if1-left in
     rw (with-held (a .old) (a .new) (asked .0) ∙ pick-false _ _ (le-ltb _ _ (if1-left))) (merge-two2-says)
 
 pub merge-votes-spec : {M : Type 1} → statement M

@@ -10,7 +10,6 @@ returns c =
     let first-row-says = c .before .before .before .first-row .ensures in
     let no-row-says = c .before .before .before .before .no-row .ensures in
     let at-6 = c .before .before .before .before .before .before in
-    let at-6 = at-6 in
     let same-ballot2-says = at-6 .same-ballot2 .ensures in
     let same-ballot-says = at-6 .before .before .same-ballot .ensures in
     let higher-ballot-says = at-6 .before .before .before .higher-ballot .ensures in

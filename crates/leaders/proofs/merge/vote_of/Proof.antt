@@ -6,7 +6,7 @@ use Rattle.leaders.proofs.merge.vote_of.Tie as tie
 
 returns : tie.Need-returns
 unfolding voteOf
-returns c = λ b. refl
+returns c = refl
 
 pub vote-of-spec : {M : Type 1} → statement M
 vote-of-spec = tie.close (tie.spec returns)

@@ -2,6 +2,7 @@
 use Rattle.boxes.proofs.laws.Answers.{newleader-is}
 use Rattle.boxes.specs.Newleader.{voteFor}
 use Rattle.sending.proofs.laws.Sends.{encode-one}
+use mathlib.Core.Path.{_∙_}
 use borrow.Author.Needs.{needs}
 use Rattle.leaders.proofs.newleader.do_newleader.Statement.{statement}
 use Rattle.leaders.proofs.newleader.do_newleader.Tie as tie
@@ -17,16 +18,16 @@ put-record-requires c κs =
 
 returns : tie.Need-returns
 returns c =
-    let at-4 = c .before .before .before .before in
-    let at-5 = at-4 .before in
-    let a = at-5 .before .before .args in
-    let asked = at-5 .before .before .pre in
-    let y = at-5 .join in
-    let r = at-4 .vote-record in let q = c .before .before .put-record in
+    let at-5 = c .before .before .before .before .before in
+    let at-6 = at-5 .before in
+    let a = at-6 .before .before .args in
+    let asked = at-6 .before .before .pre in
+    let y = at-6 .join in
+    let r = at-5 .vote-record in let q = c .before .before .before .put-record in
     let v = newleader-is (a .plan) (a .x) (a .from) (a .b) (asked .2) in
     let o = encode-one (a .plan) (voteFor (a .plan) (a .x) (a .from) (a .b)) in
-    (rw (v, o, q .ensures .0, r .ensures, y .ensures), rw (v, o, ← r .ensures) (q .ensures .1))
+    (c .done .ensures ∙ rw (v, o, q .ensures .0, r .ensures, y .ensures), rw (v, o, ← r .ensures) (q .ensures .1))
 
 pub do-newleader-spec : {M : Type 1} → statement M
 do-newleader-spec =
-    tie.close (tie.spec (λ c κs. search needs) (λ c κs. search needs) put-record-requires (λ c. search needs) returns)
+    tie.close (tie.spec (λ c κs. search needs) (λ c κs. search needs) put-record-requires (λ c κs. search needs) (λ c. search needs) returns)

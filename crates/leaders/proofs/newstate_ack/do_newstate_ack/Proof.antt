@@ -16,18 +16,19 @@ hand-out-requires c κs =
 
 returns : tie.Need-returns
 returns c =
-    let put-sent-result = c .put-sent .result in
-    let put-sent-says = c .put-sent .ensures in
-    let at-4 = c .before .before .before .before in
-    let hand-out-says = at-4 .hand-out .ensures in
-    let at-7 = at-4 .before .before .before in
-    let a = at-7 .before .before .args in
-    let asked = at-7 .before .before .pre in
-    let y = at-7 .lead in
+    let done-says = c .done .ensures in
+    let put-sent-result = c .before .put-sent .result in
+    let put-sent-says = c .before .put-sent .ensures in
+    let at-5 = c .before .before .before .before .before in
+    let hand-out-says = at-5 .hand-out .ensures in
+    let at-8 = at-5 .before .before .before in
+    let a = at-8 .before .before .args in
+    let asked = at-8 .before .before .pre in
+    let y = at-8 .lead in
     let v = newstate-ack-is (a .plan) (a .x) (a .b) (asked .2) in
     let q = hand-out-says (y .result .volatile) in
     let z : put-sent-result ≡ handOut (a .plan) (y .result) .box = put-sent-says ∙ q .0 in
-    (rw (v, z, q .1, q .2, y .ensures), rw (v, ← y .ensures) (q .3))
+    (done-says ∙ rw (v, z, q .1, q .2, y .ensures), rw (v, ← y .ensures) (q .3))
 
 pub do-newstate-ack-spec : {M : Type 1} → statement M
-do-newstate-ack-spec = tie.close (tie.spec (λ c κs. search needs) hand-out-requires (λ c κs. search needs) (λ c. search needs) returns)
+do-newstate-ack-spec = tie.close (tie.spec (λ c κs. search needs) hand-out-requires (λ c κs. search needs) (λ c κs. search needs) (λ c. search needs) returns)

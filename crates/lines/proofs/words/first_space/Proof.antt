@@ -22,7 +22,6 @@ returns : tie.Need-returns Inv-loop μ-loop
 returns c =
     let if1-taken = c .if1 .taken in
     let given = c .before .before .before .before .args in
-    let if1-taken = if1-taken in
     let l = c .before .before .before .loop in
     let e = first-here space (given .s .now) (l .i) (omega arith) (if1-taken) in
     (omega arith, omega (arith, e))
@@ -31,7 +30,6 @@ loop-again : tie.Need-loop-again Inv-loop μ-loop
 loop-again c =
     let if1-left = c .if1 .left in
     let given = c .before .before .before .before .args in
-    let if1-left = if1-left in
     let l = c .before .before .before .loop in
     let e = first-on space (given .s .now) (l .i) (omega arith) (if1-left) in
     (omega arith, omega (arith, e))

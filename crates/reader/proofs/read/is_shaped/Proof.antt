@@ -26,9 +26,6 @@ returns-3 c =
     let if2-taken = c .before .before .if2 .taken in
     let is-known-says = c .before .before .before .is-known .ensures in
     let at-5 = c .before .before .before .before .before in
-    let if3-left = if3-left in
-    let if2-taken = if2-taken in
-    let at-5 = at-5 in
     let if1-left = at-5 .if1 .left in
     let a = at-5 .before .before .args in
     let s = a .s .now in
@@ -39,7 +36,6 @@ shared-slice-read-result-3 : tie.Need-shared-slice-read-result-3
 shared-slice-read-result-3 c =
     let stamps-at-says = c .before .before .before .before .before .stamps-at .ensures in
     let at-6 = c .before .before .before .before .before .before in
-    let at-6 = at-6 in
     let if3-taken = at-6 .if3 .taken in
     let at-7 = at-6 .before in
     let length-of-says = at-7 .length-of .ensures in

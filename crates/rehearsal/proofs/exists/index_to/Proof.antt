@@ -9,7 +9,6 @@ returns : tie.Need-returns
 returns c =
     let extend-says = c .before .before .extend .ensures in
     let if1-taken = c .before .before .before .before .if1 .taken in
-    let if1-taken = if1-taken in
     (extend-says .0, λ h. never (if1-taken) h)
 
 returns-2 : tie.Need-returns-2

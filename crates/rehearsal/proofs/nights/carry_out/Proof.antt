@@ -27,8 +27,6 @@ returns c =
     let put-box-says = c .put-box .ensures in
     let if1-taken = c .before .before .if1 .taken in
     let at-5 = c .before .before .before .before .before in
-    let if1-taken = if1-taken in
-    let at-5 = at-5 in
     let at-9 = at-5 .before .before .before .before in
     let at-11 = at-9 .before .before in
     let at-13 = at-11 .before .before in
@@ -54,8 +52,6 @@ returns-2 : tie.Need-returns-2
 returns-2 c =
     let if1-left = c .if1 .left in
     let at-6 = c .before .before .before .before .before .before in
-    let if1-left = if1-left in
-    let at-6 = at-6 in
     let at-7 = at-6 .before in
     let at-9 = at-7 .before .before in
     let at-11 = at-9 .before .before in

@@ -44,8 +44,6 @@ add-t14 : tie.Need-add-t14
 add-t14 c =
     let if2-taken = c .before .before .before .before .before .if2 .taken in
     let at-6 = c .before .before .before .before .before .before in
-    let if2-taken = if2-taken in
-    let at-6 = at-6 in
     let more-fits-says = at-6 .more-fits .ensures in
     let at-7 = at-6 .before in
     let a = at-7 .before .before .before .before .before .args in
@@ -61,8 +59,6 @@ returns-2 c =
     let put-behind-says = c .before .before .put-behind .ensures in
     let if2-taken = c .before .before .before .before .before .if2 .taken in
     let at-6 = c .before .before .before .before .before .before in
-    let if2-taken = if2-taken in
-    let at-6 = at-6 in
     let more-fits-says = at-6 .more-fits .ensures in
     let room-of-says = at-6 .before .room-of .ensures in
     let a = at-6 .before .before .before .before .before .before .args in

@@ -29,7 +29,6 @@ unfolding lastWords
 returns c =
     let p = c .put-both .ensures in
     let at-6 = c .before .before .before .before .before .before in
-    let at-6 = at-6 in
     let at-10 = at-6 .before .before .before .before in
     let a = at-10 .before .before .before .before .args in
     let l = at-10 .last-line in

@@ -10,7 +10,6 @@ returns : tie.Need-returns
 returns c =
     let multicast-obeys-says = c .multicast-obeys .ensures in
     let at-6 = c .before .before .before .before .before .before in
-    let at-6 = at-6 in
     let a = at-6 .before .before .before .args in
     rw (says-multicast (a .r) (c .before .match .keys1)) (multicast-obeys-says)
 
@@ -18,7 +17,6 @@ returns-2 : tie.Need-returns-2
 returns-2 c =
     let accept-obeys-says = c .accept-obeys .ensures in
     let at-6 = c .before .before .before .before .before .before in
-    let at-6 = at-6 in
     let a = at-6 .before .before .before .args in
     rw (says-accept (a .r) (c .before .match .keys2)) (accept-obeys-says)
 
@@ -26,7 +24,6 @@ returns-3 : tie.Need-returns-3
 returns-3 c =
     let accept-ack-obeys-says = c .accept-ack-obeys .ensures in
     let at-6 = c .before .before .before .before .before .before in
-    let at-6 = at-6 in
     let a = at-6 .before .before .before .args in
     rw (says-accept-ack (a .r) (c .before .match .keys3)) (accept-ack-obeys-says)
 
@@ -34,7 +31,6 @@ returns-4 : tie.Need-returns-4
 returns-4 c =
     let deliver-obeys-says = c .deliver-obeys .ensures in
     let at-6 = c .before .before .before .before .before .before in
-    let at-6 = at-6 in
     let a = at-6 .before .before .before .before .args in
     rw (says-deliver (a .r) (c .before .before .match .keys4)) (deliver-obeys-says)
 
@@ -42,7 +38,6 @@ returns-5 : tie.Need-returns-5
 returns-5 c =
     let newleader-obeys-says = c .newleader-obeys .ensures in
     let at-6 = c .before .before .before .before .before .before in
-    let at-6 = at-6 in
     let a = at-6 .before .before .before .args in
     rw (says-newleader (a .r) (c .before .match .keys5)) (newleader-obeys-says)
 
@@ -50,7 +45,6 @@ returns-6 : tie.Need-returns-6
 returns-6 c =
     let newleader-ack-obeys-says = c .newleader-ack-obeys .ensures in
     let at-6 = c .before .before .before .before .before .before in
-    let at-6 = at-6 in
     let a = at-6 .before .before .before .before .args in
     rw (says-newleader-ack (a .r) (c .before .before .match .keys6)) (newleader-ack-obeys-says)
 
@@ -58,7 +52,6 @@ returns-7 : tie.Need-returns-7
 returns-7 c =
     let new-state-obeys-says = c .new-state-obeys .ensures in
     let at-6 = c .before .before .before .before .before .before in
-    let at-6 = at-6 in
     let a = at-6 .before .before .before .args in
     rw (says-new-state (a .r) (c .before .match .keys7)) (new-state-obeys-says)
 
@@ -66,7 +59,6 @@ returns-8 : tie.Need-returns-8
 returns-8 c =
     let newstate-ack-obeys-says = c .newstate-ack-obeys .ensures in
     let at-6 = c .before .before .before .before .before .before in
-    let at-6 = at-6 in
     let a = at-6 .before .before .before .args in
     rw (says-newstate-ack (a .r) (c .before .match .keys8)) (newstate-ack-obeys-says)
 

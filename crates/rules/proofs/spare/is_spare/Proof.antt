@@ -13,7 +13,6 @@ returns c =
     let stamps-in-says = c .before .before .before .stamps-in .ensures in
     let spare-ballots-says = c .before .before .before .before .spare-ballots .ensures in
     let at-5 = c .before .before .before .before .before in
-    let at-5 = at-5 in
     let ballots-in-says = at-5 .ballots-in .ensures in
     let has-job-says = at-5 .before .before .has-job .ensures in
     rw (spare-rows-says, rows-in-says, spare-stamps-says, stamps-in-says, spare-ballots-says, ballots-in-says, has-job-says)

@@ -1,5 +1,9 @@
 -- `sending::handing::hand_job` meets its contract.
 use Prim.Native.Nat.{ℕ}
+use mathlib.Core.Bool.{true}
+use mathlib.Core.Path.{_≡_}
+use Rattle.house.specs.Marks.{homeBoxes}
+use Rattle.house.specs.Plan.{planSound}
 use Rattle.house.specs.declared.Ballot.{Ballot}
 use Rattle.house.specs.declared.BoxNo.{BoxNo}
 use Rattle.house.specs.declared.Row.{Row}
@@ -14,23 +18,30 @@ use Rattle.sending.proofs.handing.hand_job.Statement.{statement}
 use Rattle.sending.proofs.handing.hand_job.Tie as tie
 
 -- of a box only its number is asked
-sending : (P : Plan) (own : BoxNo) (b : Ballot) (row : Row) (j : ℕ)
-    → Sends P (deliversFrom P own b row j) (carried (deliver own own j (record { ballot = b; local = row .local; global = row .global })))
+sending : (P : Plan) (s : planSound P ≡ true) (own : BoxNo) (b : Ballot) (row : Row) (j : ℕ)
+    → Sends P (deliversFrom P own b row j) (homeBoxes P own) (carried (deliver own own j (record { ballot = b; local = row .local; global = row .global })))
 unfolding deliversFrom fresh
-sending P own b row j = delivers-sent P own (fresh own) j (record { ballot = b; local = row .local; global = row .global })
+sending P s own b row j = delivers-sent P s own (fresh own) j (record { ballot = b; local = row .local; global = row .global })
+
+home-boxes-requires : tie.Need-home-boxes-requires
+home-boxes-requires c κs = c .before .before .pre .0
 
 send-requires : tie.Need-send-requires
 send-requires c κs =
-    let a = c .before .before .before .args in let w = sending (a .plan) (a .own) (a .b) (a .row) (a .job) in
-    (c .before .before .before .pre .0, rw (c .before .deliver-record .ensures, ← w .bytes) (c .before .before .before .pre .1))
+    let meant-says = c .before .home-boxes .ensures in let record-says = c .before .before .deliver-record .ensures in
+    let a = c .before .before .before .before .args in let asked = c .before .before .before .before .pre in
+    let w = sending (a .plan) (asked .0) (a .own) (a .b) (a .row) (a .job) in
+    (asked .0, rw (meant-says, record-says, ← w .bytes) (asked .1))
 
 returns : tie.Need-returns
 returns c =
-    let e = c .before .before .before .before .deliver-record .ensures in
-    let a = c .before .before .before .before .before .before .args in
-    let w = sending (a .plan) (a .own) (a .b) (a .row) (a .job) in
     let q = c .before .before .send in
-    (rw (w .bytes, ← e) (q .ensures .0), rw (w .count, ← e) (q .ensures .1), rw (w .bytes, ← e) (q .ensures .2), q .ensures .3)
+    let m = c .before .before .before .before .home-boxes .ensures in
+    let at-5 = c .before .before .before .before .before in
+    let e = at-5 .deliver-record .ensures in
+    let a = at-5 .before .before .args in let asked = at-5 .before .before .pre in
+    let w = sending (a .plan) (asked .0) (a .own) (a .b) (a .row) (a .job) in
+    (rw (w .bytes, ← e, ← m) (q .ensures .0), rw (w .count, ← m) (q .ensures .1), rw (w .bytes, ← e, ← m) (q .ensures .2), q .ensures .3)
 
 pub hand-job-spec : {M : Type 1} → statement M
-hand-job-spec = tie.close (tie.spec (λ c κs. search needs) send-requires (λ c. search needs) returns)
+hand-job-spec = tie.close (tie.spec (λ c κs. search needs) home-boxes-requires send-requires (λ c. search needs) returns)

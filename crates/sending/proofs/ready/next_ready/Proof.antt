@@ -26,7 +26,6 @@ loop-again : tie.Need-loop-again Inv-loop μ-loop
 loop-again c =
     let e = c .before .stamp-below .ensures in
     let at-6 = c .before .before .before .before .before .before in
-    let at-6 = at-6 in
     let a = at-6 .before .before .args in
     let l = at-6 .loop in let b = l .inv .2 in (
       omega arith,

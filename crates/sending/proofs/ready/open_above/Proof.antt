@@ -36,7 +36,6 @@ loop-again c =
     let stamp-below-says = c .stamp-below .ensures in
     let row-open-says = c .before .row-open .ensures in
     let at-5 = c .before .before .before .before .before in
-    let at-5 = at-5 in
     let a = at-5 .before .args in
     let l = at-5 .loop in
     (omega arith, rw (l .inv .1, stamp-below-says, row-open-says) (all-step (above (a .t1) (a .s)) (l .k)))

@@ -21,7 +21,6 @@ returns-2 c =
     let as-byte-says = c .as-byte .ensures in
     let if1-left = c .before .if1 .left in
     let given = c .before .before .before .before .args in
-    let if1-left = if1-left in
     let d = given .desk in
     rw (as-byte-says) (ap (λ (P : Plan). record { plan = P; drawn = d .drawn; fixed = d .fixed }) (sym (pick-false _ _ (lt-leb _ _ (if1-left)))))
 

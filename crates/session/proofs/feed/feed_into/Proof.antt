@@ -146,8 +146,6 @@ loop-again : tie.Need-loop-again Inv-loop μ-loop
 loop-again c =
     let if2-taken = c .before .if2 .taken in
     let at-5 = c .before .before .before .before .before in
-    let if2-taken = if2-taken in
-    let at-5 = at-5 in
     let w = at-5 in
     let p = turn-of w in
     let e = ended-of p in

@@ -17,7 +17,6 @@ unfolding lastOf
 returns c =
     let if1-taken = c .if1 .taken in
     let a = c .before .before .before .before .args in
-    let if1-taken = if1-taken in
     let v : within (a .s) (a .post .now) ≡ lastOf (a .s) (a .post .now) = sym (pick-true _ _ (eq-eqb _ _ (if1-taken))) in
     leaves-as v (record { fed = refl; post = refl; text = sym (onto-nil (a .t .now)) })
 
@@ -26,7 +25,6 @@ unfolding lastOf
 returns-2 c =
     let q = c .before .before .feed-into .ensures in
     let at-6 = c .before .before .before .before .before .before in
-    let at-6 = at-6 in
     let if1-left = at-6 .if1 .left in
     let a = at-6 .before .before .before .before .args in
     let v : chunkOf (a .s) (a .post .now) (lineFeed ∷ []) ≡ lastOf (a .s) (a .post .now) =

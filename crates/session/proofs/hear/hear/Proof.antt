@@ -24,7 +24,6 @@ hear-plain-requires c κs =
     let if1-left = c .before .if1 .left in
     let is-order-says = c .before .before .is-order .ensures in
     let asked = c .before .before .before .before .before .pre in
-    let if1-left = if1-left in
     (asked .0, sym (is-order-says) ∙ if1-left)
 
 returns-2 : tie.Need-returns-2

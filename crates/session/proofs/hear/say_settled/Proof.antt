@@ -9,7 +9,6 @@ unfolding pick
 returns c =
     let q = c .before .before .answer-line .ensures in
     let if1-taken = c .before .before .before .before .if1 .taken in
-    let if1-taken = if1-taken in
     rw (if1-taken) q
 
 returns-2 : tie.Need-returns-2
@@ -17,7 +16,6 @@ unfolding pick
 returns-2 c =
     let q = c .before .before .answer-line2 .ensures in
     let if1-left = c .before .before .before .before .if1 .left in
-    let if1-left = if1-left in
     rw (if1-left) q
 
 pub say-settled-spec : {M : Type 1} → statement M

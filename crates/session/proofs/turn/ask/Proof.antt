@@ -17,8 +17,6 @@ returns : tie.Need-returns
 returns c =
     let if1-taken = c .if1 .taken in
     let at-6 = c .before .before .before .before .before .before in
-    let if1-taken = if1-taken in
-    let at-6 = at-6 in
     let at-7 = at-6 .before in
     let a = at-7 in
     let q = c .before .before .before .read-on in
@@ -42,7 +40,6 @@ returns-2 c =
     let no-line-says = c .no-line .ensures in
     let find-says = c .before .before .before .find .ensures in
     let at-5 = c .before .before .before .before .before in
-    let at-5 = at-5 in
     let order-of-says = at-5 .order-of .ensures in
     let at-7 = at-5 .before .before in
     let b = at-7 in

@@ -37,7 +37,6 @@ returns : tie.Need-returns Inv-loop μ-loop
 returns c =
     let if1-taken = c .if1 .taken in
     let a = c .before .before .before .before .before .args in
-    let if1-taken = if1-taken in
     let l = c .before .before .before .loop in
     let m : l .i ≤ length (a .chunk .now) = omega (arith, l .inv .1, l .inv .2) in
     (l .inv .0, m, λ h. if1-taken, l .inv .3)

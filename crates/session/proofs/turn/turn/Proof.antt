@@ -65,7 +65,6 @@ returns-2 : tie.Need-returns-2
 returns-2 c =
     let if1-left = c .if1 .left in
     let hear-says = c .before .before .before .before .hear .ensures in
-    let if1-left = if1-left in
     turns-passed (hear-says) (if1-left)
 
 pub turn-spec : {M : Type 1} → statement M

@@ -14,7 +14,6 @@ returns c =
     let same-ballot-says = c .before .before .before .before .same-ballot .ensures in
     let is-recovering-says = c .before .before .before .before .before .is-recovering .ensures in
     let at-6 = c .before .before .before .before .before .before in
-    let at-6 = at-6 in
     let ballot-below-says = at-6 .ballot-below .ensures in
     let home-of-says = at-6 .before .home-of .ensures in
     rw (ballot-below-says, is-recovering-says, same-ballot-says, none-or-in-says, none-or-in2-says, is-leader-says, ballot-of-says, home-of-says)

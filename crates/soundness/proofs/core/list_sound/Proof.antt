@@ -33,7 +33,6 @@ unfolding placesSound nthSound Seen
 loop-again c =
     let place-sound-says = c .before .place-sound .ensures in
     let at-6 = c .before .before .before .before .before .before in
-    let at-6 = at-6 in
     let at-9 = at-6 .before .before .before in
     let a = at-9 .before .before .before .before .args in
     let h = at-9 .home-of in

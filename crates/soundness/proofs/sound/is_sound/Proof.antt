@@ -49,8 +49,6 @@ unfolding sound boxSound
 returns-3 c =
     let if3-left = c .if3 .left in
     let at-6 = c .before .before .before .before .before .before in
-    let if3-left = if3-left in
-    let at-6 = at-6 in
     rw (plan-held (at-6), range-held (c .before .before .before), rows-asked (c .before) ∙ if3-left)
 
 returns-4 : tie.Need-returns-4
@@ -58,8 +56,6 @@ unfolding sound boxSound
 returns-4 c =
     let if4-left = c .if4 .left in
     let at-6 = c .before .before .before .before .before .before in
-    let if4-left = if4-left in
-    let at-6 = at-6 in
     let at-9 = at-6 .before .before .before in
     let p = plan-held (at-9) in
     rw (p, range-held (at-6), rows-held (c .before .before .before), kept-asked (c .before) ∙ if4-left)
@@ -71,8 +67,6 @@ returns-5 c =
     let list-sound-says = c .before .list-sound .ensures in
     let if4-taken = c .before .before .if4 .taken in
     let at-5 = c .before .before .before .before .before in
-    let if4-taken = if4-taken in
-    let at-5 = at-5 in
     let at-8 = at-5 .before .before .before in
     let at-11 = at-8 .before .before .before in
     let p = plan-held (at-11) in

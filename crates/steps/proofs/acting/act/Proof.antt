@@ -5,6 +5,7 @@ use Rattle.steps.proofs.laws.Acting.{box, told, least, most, job-low, h
 use Rattle.sending.proofs.laws.Sends.{encode-none}
 use Rattle.boxes.proofs.laws.Answers.{deliver-is}
 use Rattle.records.specs.Rec.{ballotNo, stampNo}
+use Rattle.records.specs.declared.Handout.{Handout}
 use Rattle.records.proofs.laws.Kinds.{says-multicast, says-accept, says-accept-ack, says-deliver}
 use Rattle.laws.proofs.laws.Tray.{onto-nil}
 use mathlib.Core.Path.{sym}
@@ -48,7 +49,8 @@ do-deliver-requires c κs =
     let s = at-8 in let a = s .args in let A = s .pre .0 in let e = c .before .match .keys4 in
     let O = rw (says-deliver (a .r) e) at (told A) in let j = job-low (a .plan) (a .r .job) (box A .plan) (O .job) in
     let d = rw (judged-4 (a .plan) (a .x) (a .r) e) at (s .pre .1) in
-    (j, room-listed (a .plan) (a .x) (a .r .job) _ _ (box A) d, d)
+    let y : Handout = record { ballot = ballotNo (a .r) 0; local = stampNo (a .r) 0; global = stampNo (a .r) 1 } in
+    (j, room-listed (a .plan) (a .x) (a .r .job) y (box A) d, d)
 
 do-newleader-requires : tie.Need-do-newleader-requires
 do-newleader-requires c κs =
@@ -108,7 +110,6 @@ returns-4 : tie.Need-returns-4
 returns-4 c =
     let do-deliver-says = c .do-deliver .ensures in
     let at-6 = c .before .before .before .before .before .before in
-    let at-6 = at-6 in
     let at-9 = at-6 .before .before .before in
     let s = at-9 in let a = s .args in let k = c .before .before .match .keys4 in
     let e = react-4 (a .plan) (a .x) (a .r) k in let d = rw (judged-4 (a .plan) (a .x) (a .r) k) at (s .pre .1) in

@@ -11,7 +11,6 @@ returns : tie.Need-returns
 returns c =
     let decide-multicast-says = c .decide-multicast .ensures in
     let at-6 = c .before .before .before .before .before .before in
-    let at-6 = at-6 in
     let a = at-6 .before .args in
     rw (judged-1 (a .plan) (a .x) (a .r) (c .before .match .keys1)) (decide-multicast-says)
 
@@ -19,7 +18,6 @@ returns-2 : tie.Need-returns-2
 returns-2 c =
     let decide-accept-says = c .decide-accept .ensures in
     let at-6 = c .before .before .before .before .before .before in
-    let at-6 = at-6 in
     let a = at-6 .before .args in
     rw (judged-2 (a .plan) (a .x) (a .r) (c .before .match .keys2)) (decide-accept-says)
 
@@ -27,7 +25,6 @@ returns-3 : tie.Need-returns-3
 returns-3 c =
     let decide-accept-ack-says = c .decide-accept-ack .ensures in
     let at-6 = c .before .before .before .before .before .before in
-    let at-6 = at-6 in
     let a = at-6 .before .args in
     rw (judged-3 (a .plan) (a .x) (a .r) (c .before .match .keys3)) (decide-accept-ack-says)
 
@@ -35,7 +32,6 @@ returns-4 : tie.Need-returns-4
 returns-4 c =
     let decide-deliver-says = c .decide-deliver .ensures in
     let at-6 = c .before .before .before .before .before .before in
-    let at-6 = at-6 in
     let at-8 = at-6 .before .before in
     let s = at-8 in let a = s .args in let p = s .pre in
     let q = c .before .before .match .rest in

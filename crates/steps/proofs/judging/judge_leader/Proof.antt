@@ -29,7 +29,6 @@ returns-4 : tie.Need-returns-4
 returns-4 c =
     let decide-newstate-ack-says = c .decide-newstate-ack .ensures in
     let at-5 = c .before .before .before .before .before in
-    let at-5 = at-5 in
     let s = at-5 in let a = s .args in let p = s .pre in let q = c .before .match .rest in
     let n₁ : a .r .kind ≢ 5 = q .0 .0 .1 in let n₂ : a .r .kind ≢ 6 = q .0 .1 in let n₃ : a .r .kind ≢ 7 = q .1 in
     let k : a .r .kind ≡ 8 = omega (arith, p .0, p .1) in

@@ -16,7 +16,6 @@ returns-2 : tie.Need-returns-2
 returns-2 c =
     let if1-left = c .if1 .left in
     let a = c .before .before .before .before .before .before .args in
-    let if1-left = if1-left in
     rw (ne-eqb (a .r .to .0) (a .x .core .own .0) (if1-left))
 
 pub judge-record-spec : {M : Type 1} → statement M

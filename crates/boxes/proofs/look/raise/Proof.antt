@@ -1,10 +1,10 @@
--- `jobs::accept::raise` meets its contract.
+-- `boxes::look::raise` meets its contract.
 use mathlib.Core.Path.{sym}
 use borrow.Author.Tests.{lt-ltb, le-ltb}
 use Rattle.laws.proofs.laws.Choice.{pick-true, pick-false}
 use Rattle.boxes.specs.Box.{raised}
-use Rattle.jobs.proofs.accept.raise.Statement.{statement}
-use Rattle.jobs.proofs.accept.raise.Tie as tie
+use Rattle.boxes.proofs.look.raise.Statement.{statement}
+use Rattle.boxes.proofs.look.raise.Tie as tie
 
 returns : tie.Need-returns
 unfolding raised

@@ -1,0 +1,26 @@
+-- `leaders::stand::do_stand` meets its contract.
+use Rattle.leaders.proofs.laws.Voted.{standing-sent}
+use Rattle.boxes.specs.Stand.{standing}
+use Rattle.sending.specs.Sends.{Sends}
+use borrow.Author.Needs.{needs}
+use Rattle.leaders.proofs.stand.do_stand.Statement.{statement}
+use Rattle.leaders.proofs.stand.do_stand.Tie as tie
+
+home-boxes-requires : tie.Need-home-boxes-requires
+home-boxes-requires c κs = c .before .before .before .before .pre .0
+
+-- the records are those that a send of this one writes
+sent : (c : tie.After-home-boxes) → let a = c .before .before .before .before .before .args in
+    Sends (a .plan) (standing (a .plan) (a .x)) (c .home-boxes .result) (c .before .stand-record .result)
+sent c =
+    let a = c .before .before .before .before .before .args in
+    rw (c .home-boxes .ensures, c .before .stand-record .ensures) (standing-sent (a .plan) (c .before .before .before .before .before .pre .0) (a .x))
+
+done-sending-requires : tie.Need-done-sending-requires
+done-sending-requires c κs = let p = c .before .before .before .before .before .before .pre in (p .0, (_, sent (c .before), p .2))
+
+returns : tie.Need-returns
+returns c = c .before .before .done-sending .ensures _ (sent (c .before .before .before .before))
+
+pub do-stand-spec : {M : Type 1} → statement M
+do-stand-spec = tie.close (tie.spec (λ c κs. search needs) home-boxes-requires done-sending-requires (λ c. search needs) returns)
