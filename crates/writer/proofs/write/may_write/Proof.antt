@@ -22,9 +22,6 @@ returns-3 c =
     let if2-taken = c .before .before .if2 .taken in
     let if1-taken = c .before .before .before .if1 .taken in
     let plan-sound-says = c .before .before .before .before .plan-sound .ensures in
-    let if3-left = if3-left in
-    let if2-taken = if2-taken in
-    let if1-taken = if1-taken in
     rw (sym (plan-sound-says) ∙ if1-taken, le-leb _ _ (if2-taken), sym (is-valid-says) ∙ if3-left)
 
 returns-4 : tie.Need-returns-4
@@ -35,9 +32,6 @@ returns-4 c =
     let if2-taken = c .before .before .if2 .taken in
     let if1-taken = c .before .before .before .if1 .taken in
     let plan-sound-says = c .before .before .before .before .plan-sound .ensures in
-    let if3-taken = if3-taken in
-    let if2-taken = if2-taken in
-    let if1-taken = if1-taken in
     rw (sym (plan-sound-says) ∙ if1-taken, le-leb _ _ (if2-taken), sym (is-valid-says) ∙ if3-taken)
 
 pub may-write-spec : {M : Type 1} → statement M

@@ -85,7 +85,6 @@ sub-put-rows : tie.Need-sub-put-rows
 sub-put-rows c =
     let stamps-in-says = c .before .before .before .stamps-in .ensures in
     let at-6 = c .before .before .before .before .before .before in
-    let at-6 = at-6 in
     let at-7 = at-6 .before in
     let ballots-in-says = at-7 .before .ballots-in .ensures in
     let at-12 = at-7 .before .before .before .before .before in

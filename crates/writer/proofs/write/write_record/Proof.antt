@@ -23,7 +23,6 @@ put-record-requires : tie.Need-put-record-requires
 put-record-requires c κs =
     let may-write-says = c .before .before .before .may-write .ensures in
     let at-5 = c .before .before .before .before .before in
-    let at-5 = at-5 in
     let a = at-5 .args in
     let w = write-says (a .plan) (a .r) _ (sym (may-write-says) ∙ c .before .enum-told .given .1) in
     (w .0, omega (arith, w .1, encode-fits (a .plan) (a .r) (w .0) (arrays (at-5))))
