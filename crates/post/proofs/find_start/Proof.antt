@@ -19,7 +19,6 @@ returns c =
     let if1-taken = c .before .if1 .taken in
     let a = c .before .before .before .before .args in
     let asked = c .before .before .before .before .pre in
-    let if1-taken = if1-taken in
     let f = c .shared-slice-known3 .given (a .k) in
     (asked .starts (a .k) (if1-taken), omega (arith, f))
 
@@ -38,7 +37,6 @@ returns-2 c =
     let if1-left = c .before .before .if1 .left in
     let a = c .before .before .before .before .before .args in
     let asked = c .before .before .before .before .before .pre in
-    let if1-left = if1-left in
     let q = c .start-from in
     let P = a .plan in let s = a .s .now in let u = a .used in let m = a .k - a .count in let at = getD (a .index .now) (a .count) 0 in
     let h : a .count < a .k = if1-left in

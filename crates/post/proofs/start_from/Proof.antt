@@ -27,7 +27,6 @@ returns : tie.Need-returns Inv-loop μ-loop
 returns c =
     let if1-taken = c .if1 .taken in
     let a = c .before .before .before .before .args in
-    let if1-taken = if1-taken in
     let l = c .before .before .loop in
     let P = a .plan in let s = a .s .now in let u = a .used in let m = a .k - l .i in
     let e : l .i + m ≡ a .k = omega (arith, l .inv .0) in

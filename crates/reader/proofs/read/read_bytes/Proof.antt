@@ -14,7 +14,6 @@ returns c =
     let if1-left = c .before .if1 .left in
     let is-shaped-says = c .before .before .is-shaped .ensures in
     let asked = c .before .before .before .before .pre in
-    let if1-left = if1-left in
     read-promised (refused-says ∙ rw (asked, sym (is-shaped-says) ∙ if1-left))
 
 parse-record-requires : tie.Need-parse-record-requires
@@ -29,9 +28,6 @@ returns-2 c =
     let parse-record-says = c .before .before .before .parse-record .ensures in
     let if1-taken = c .before .before .before .before .if1 .taken in
     let at-5 = c .before .before .before .before .before in
-    let if2-left = if2-left in
-    let if1-taken = if1-taken in
-    let at-5 = at-5 in
     let is-shaped-says = at-5 .is-shaped .ensures in
     let at-7 = at-5 .before .before in
     let a = at-7 in
@@ -47,9 +43,6 @@ returns-3 c =
     let if1-taken = c .before .before .before .if1 .taken in
     let is-shaped-says = c .before .before .before .before .is-shaped .ensures in
     let at-6 = c .before .before .before .before .before .before in
-    let if2-taken = if2-taken in
-    let if1-taken = if1-taken in
-    let at-6 = at-6 in
     let a = at-6 in
     let v = ap (valid (a .args .plan)) (sym (parse-record-says)) ∙ sym (is-valid-says) ∙ if2-taken in
     read-promised (rw (parse-record-says, a .pre, sym (is-shaped-says) ∙ if1-taken, v))
