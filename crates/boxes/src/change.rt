@@ -2,6 +2,7 @@
 // Each promises the box with that field anew.
 ghost use mathlib.Core.Path.{_≡_};
 ghost use Prim.Native.Nat.{_<_};
+ghost use Rattle.house.specs.Limits.{mostDistricts, mostJobs};
 ghost use Rattle.boxes.specs.Box.{putMode, putTable, putRow, putSent, putListed, putKept, putMarks, putVote};
 use crate::BoxState;
 use crate::Core;
@@ -54,7 +55,7 @@ pub fn put_table(x: BoxState, clock: u32, table: [Row; house::JOBS]) -> BoxState
 
 // the clock and the row of a job
 pub fn put_row(x: BoxState, clock: u32, job: usize, row: Row) -> BoxState
-    requires { ⌜ job < 64 ⌝ }
+    requires { ⌜ job < mostJobs ⌝ }
     ensures { λ r. ⌜ r ≡ putRow x clock job row ⌝ }
 {
     let mut n = x;
@@ -80,7 +81,7 @@ pub fn put_sent(x: BoxState, sent: [bool; house::JOBS]) -> BoxState
 
 // a job more on the delivered list
 pub fn put_listed(x: BoxState, job: u8, s: Stamp) -> BoxState
-    requires { ⌜ x .core .count < 64 ⌝ }
+    requires { ⌜ x .core .count < mostJobs ⌝ }
     ensures { λ r. ⌜ r ≡ putListed x job s ⌝ }
 {
     let mut n = x;
@@ -96,7 +97,7 @@ pub fn put_listed(x: BoxState, job: u8, s: Stamp) -> BoxState
 
 // the ACCEPT kept for a job and a district, and the job's marks
 pub fn put_kept(x: BoxState, job: usize, d: District, b: Ballot, s: Stamp, marks: u32) -> BoxState
-    requires { ⌜ (job < 64) × (d .0 < 4) ⌝ }
+    requires { ⌜ (job < mostJobs) × (d .0 < mostDistricts) ⌝ }
     ensures { λ r. ⌜ r ≡ putKept x job d b s marks ⌝ }
 {
     let at = job * 4 + d.0 as usize;
@@ -117,7 +118,7 @@ pub fn put_kept(x: BoxState, job: usize, d: District, b: Ballot, s: Stamp, marks
 
 // the marks of a job
 pub fn put_marks(x: BoxState, job: usize, marks: u32) -> BoxState
-    requires { ⌜ job < 64 ⌝ }
+    requires { ⌜ job < mostJobs ⌝ }
     ensures { λ r. ⌜ r ≡ putMarks x job marks ⌝ }
 {
     let mut n = x;

@@ -2,11 +2,12 @@
 // The definition, planSound, stands in specs/Plan.antt.
 ghost use mathlib.Core.Path.{_≡_};
 ghost use Prim.Native.Nat.{_≤_};
+ghost use Rattle.house.specs.Limits.{mostDistricts, mostJobs};
 ghost use Rattle.house.specs.Plan.{maskSound, countsSound, masksSound, planSound};
 use crate::Plan;
 
 fn mask_sound(districts: u8, mask: u8) -> bool
-    requires { ⌜ districts ≤ 4 ⌝ }
+    requires { ⌜ districts ≤ mostDistricts ⌝ }
     ensures { λ r. ⌜ r ≡ maskSound districts mask ⌝ }
 {
     (1 <= mask) & (mask < (1u8 << districts))
@@ -20,7 +21,7 @@ fn counts_sound(plan: Plan) -> bool
 }
 
 fn masks_sound(plan: Plan, n: u8) -> bool
-    requires { ⌜ (n ≤ 64) × (plan .districts ≤ 4) ⌝ }
+    requires { ⌜ (n ≤ mostJobs) × (plan .districts ≤ mostDistricts) ⌝ }
     ensures { λ r. ⌜ r ≡ masksSound plan n ⌝ }
 {
     let masks = plan.masks;

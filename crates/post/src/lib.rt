@@ -6,7 +6,6 @@ ghost use lib.ListN.{length, getD, take, drop};
 ghost use lib.Dec.{leb, ltb};
 ghost use Rattle.laws.specs.Tray.{onto};
 ghost use Rattle.laws.specs.Choice.{pick};
-ghost use Rattle.records.specs.Bytes.{lengthOf};
 ghost use Rattle.house.specs.Limits.{mostPost};
 ghost use Rattle.post.specs.Posting.{roomOf, nextStart, walkFrom, startOf, mostPlace};
 ghost use Rattle.post.specs.Index.{Indexed};
@@ -47,16 +46,6 @@ pub fn byte_at(s: &[u8], at: usize) -> u8
     0
 }
 
-// the length of a record of a kind
-pub fn length_of(plan: Plan, kind: u8) -> usize
-    ensures { λ r. ⌜ (r ≡ lengthOf plan kind) × (r ≤ 5000) ⌝ }
-{
-    let b = records::ballots_in(plan, kind) as usize;
-    let s = records::stamps_in(kind) as usize;
-    let r = records::rows_in(plan, kind) as usize;
-    6 + b * 3 + 1 + s * 5 + 1 + r * 11
-}
-
 // where the next record begins
 fn next_start(plan: Plan, s: &[u8], used: usize, at: usize) -> usize
     requires { ⌜ at ≤ mostPlace ⌝ }
@@ -64,7 +53,7 @@ fn next_start(plan: Plan, s: &[u8], used: usize, at: usize) -> usize
 {
     if at < used {
         let kind = byte_at(s, at + 1);
-        return at + length_of(plan, kind);
+        return at + records::length_of(plan, kind);
     }
     at
 }

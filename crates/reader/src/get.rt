@@ -5,6 +5,7 @@ ghost use mathlib.Core.List.{_++_};
 ghost use Prim.Native.Nat.{_+_, _*_, _-_, _≤_};
 ghost use lib.ListN.{length, replicate};
 ghost use Rattle.laws.specs.Codec.{decRow};
+ghost use Rattle.house.specs.Limits.{mostDistricts, mostJobs};
 ghost use Rattle.house.specs.Pairs.{noStamp, noBallot, noRow};
 ghost use Rattle.records.specs.Fields.{ballotAt, stampAt, rowAt, ballots, stamps, rows};
 ghost use Rattle.reader.specs.Head.{headAt};
@@ -84,13 +85,10 @@ fn read_row(s: &[u8]) -> Row
 
 // section 2: n ballots from the front, and none behind them
 pub fn read_ballots(s: &[u8], n: u8) -> [Ballot; house::DISTRICTS]
-    requires { ⌜ (n ≤ 4) × (n * 3 ≤ length (now s)) ⌝ }
-    ensures { λ r. ⌜ r ≡ decRow ballots n (now (s .entry)) ++ replicate (4 - n) noBallot ⌝ }
+    requires { ⌜ (n ≤ mostDistricts) × (n * 3 ≤ length (now s)) ⌝ }
+    ensures { λ r. ⌜ r ≡ decRow ballots n (now (s .entry)) ++ replicate (mostDistricts - n) noBallot ⌝ }
 {
-    let none = Ballot {
-        number: 0,
-        owner: BoxNo(0),
-    };
+    let none = house::no_ballot();
     let mut out = [none; house::DISTRICTS];
     for i in 0..n {
         let k = i as usize;
@@ -106,10 +104,7 @@ pub fn read_stamps(s: &[u8], n: u8) -> [Stamp; records::STAMPS]
     requires { ⌜ (n ≤ 2) × (n * 5 ≤ length (now s)) ⌝ }
     ensures { λ r. ⌜ r ≡ decRow stamps n (now (s .entry)) ++ replicate (2 - n) noStamp ⌝ }
 {
-    let none = Stamp {
-        time: 0,
-        district: District(0),
-    };
+    let none = house::no_stamp();
     let mut out = [none; records::STAMPS];
     for i in 0..n {
         let k = i as usize;
@@ -122,18 +117,10 @@ pub fn read_stamps(s: &[u8], n: u8) -> [Stamp; records::STAMPS]
 
 // section 4: n rows of the table
 pub fn read_rows(s: &[u8], n: u8) -> [Row; house::JOBS]
-    requires { ⌜ (n ≤ 64) × (n * 11 ≤ length (now s)) ⌝ }
-    ensures { λ r. ⌜ r ≡ decRow rows n (now (s .entry)) ++ replicate (64 - n) noRow ⌝ }
+    requires { ⌜ (n ≤ mostJobs) × (n * 11 ≤ length (now s)) ⌝ }
+    ensures { λ r. ⌜ r ≡ decRow rows n (now (s .entry)) ++ replicate (mostJobs - n) noRow ⌝ }
 {
-    let no_stamp = Stamp {
-        time: 0,
-        district: District(0),
-    };
-    let none = Row {
-        phase: house::START,
-        local: no_stamp,
-        global: no_stamp,
-    };
+    let none = house::no_row();
     let mut out = [none; house::JOBS];
     for i in 0..n {
         let k = i as usize;

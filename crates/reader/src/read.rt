@@ -2,36 +2,15 @@
 // The promise, RecordRead, stands in specs/Outcome.antt of records.
 ghost use mathlib.Core.Path.{_≡_};
 ghost use mathlib.Core.Bool.{true};
-ghost use Prim.Native.Nat.{_≤_};
 ghost use Rattle.house.specs.Plan.{planSound};
 ghost use Rattle.records.specs.Rec.{noRecord};
-ghost use Rattle.records.specs.Bytes.{stampsAt, rowsAt, lengthOf, shaped, parse};
+ghost use Rattle.records.specs.Bytes.{shaped, parse};
 ghost use Rattle.records.specs.Outcome.{RecordRead};
 use crate::get;
 use house::Plan;
 use records::Answer;
 use records::ReadOut;
 use records::Record;
-
-// where the count of the stamps stands, and that of the rows
-fn stamps_at(plan: Plan, kind: u8) -> usize
-    ensures { λ r. ⌜ (r ≡ stampsAt plan kind) × (r ≤ 771) ⌝ }
-{
-    6 + (records::ballots_in(plan, kind) as usize) * 3
-}
-
-fn rows_at(plan: Plan, kind: u8) -> usize
-    ensures { λ r. ⌜ (r ≡ rowsAt plan kind) × (r ≤ 2047) ⌝ }
-{
-    stamps_at(plan, kind) + 1 + (records::stamps_in(kind) as usize) * 5
-}
-
-// how long a record of this kind is
-fn length_of(plan: Plan, kind: u8) -> usize
-    ensures { λ r. ⌜ r ≡ lengthOf plan kind ⌝ }
-{
-    rows_at(plan, kind) + 1 + (records::rows_in(plan, kind) as usize) * 11
-}
 
 // a known kind, its counts, and neither bytes missing nor left over
 fn is_shaped(plan: Plan, s: &[u8]) -> bool
@@ -45,11 +24,11 @@ fn is_shaped(plan: Plan, s: &[u8]) -> bool
     if records::is_known(kind) {} else {
         return false;
     }
-    if len == length_of(plan, kind) {} else {
+    if len == records::length_of(plan, kind) {} else {
         return false;
     }
-    let p = stamps_at(plan, kind);
-    let q = rows_at(plan, kind);
+    let p = records::stamps_at(plan, kind);
+    let q = records::rows_at(plan, kind);
     (s[0] == 4)
         & ((s[5] == records::ballots_in(plan, kind))
             & ((s[p] == records::stamps_in(kind)) & (s[q] == records::rows_in(plan, kind))))
@@ -62,8 +41,8 @@ fn parse_record(plan: Plan, s: &[u8]) -> Record
 {
     let head = get::read_head(&s[1..]);
     let kind = head.kind;
-    let p = stamps_at(plan, kind) + 1;
-    let q = rows_at(plan, kind) + 1;
+    let p = records::stamps_at(plan, kind) + 1;
+    let q = records::rows_at(plan, kind) + 1;
     let ballots = get::read_ballots(&s[6..], records::ballots_in(plan, kind));
     let stamps = get::read_stamps(&s[p..], records::stamps_in(kind));
     let table = get::read_rows(&s[q..], records::rows_in(plan, kind));

@@ -1,6 +1,8 @@
-// How many ballots, stamps and rows each kind of record has, and whether it has a job.
-// The table stands in specs/Format.antt.
+// How many ballots, stamps and rows each kind of record has, where their counts stand, how long it is, and whether it has a job.
+// The table stands in specs/Format.antt, the places in specs/Bytes.antt.
 ghost use mathlib.Core.Path.{_≡_};
+ghost use Prim.Native.Nat.{_≤_};
+ghost use Rattle.records.specs.Bytes.{stampsAt, rowsAt, lengthOf};
 ghost use Rattle.records.specs.Format.{known, entry, orPlan, ballotsIn, stampsIn, rowsIn, hasJob};
 ghost use Rattle.records.specs.Rec.{noRecord};
 use crate::Record;
@@ -102,6 +104,26 @@ pub fn rows_in(plan: Plan, kind: u8) -> u8
     ensures { λ r. ⌜ r ≡ rowsIn plan kind ⌝ }
 {
     or_plan(plan.jobs, entry_of(kind, 2))
+}
+
+// where the count of the stamps stands, and that of the rows; each count is a byte, which bounds the places
+pub fn stamps_at(plan: Plan, kind: u8) -> usize
+    ensures { λ r. ⌜ (r ≡ stampsAt plan kind) × (r ≤ 771) ⌝ }
+{
+    6 + (ballots_in(plan, kind) as usize) * 3
+}
+
+pub fn rows_at(plan: Plan, kind: u8) -> usize
+    ensures { λ r. ⌜ (r ≡ rowsAt plan kind) × (r ≤ 2047) ⌝ }
+{
+    stamps_at(plan, kind) + 1 + (stamps_in(kind) as usize) * 5
+}
+
+// how long a record of this kind is
+pub fn length_of(plan: Plan, kind: u8) -> usize
+    ensures { λ r. ⌜ (r ≡ lengthOf plan kind) × (r ≤ 5000) ⌝ }
+{
+    rows_at(plan, kind) + 1 + (rows_in(plan, kind) as usize) * 11
 }
 
 pub fn has_job(kind: u8) -> bool

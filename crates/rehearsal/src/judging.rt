@@ -72,7 +72,7 @@ fn judge_carry(plan: Plan, known: bool, x: BoxState, start: usize, post: &[u8]) 
         return answered(Answer::No(records::NOT_SOUND));
     }
     let kind = post::byte_at(post, start + 1);
-    let len = post::length_of(plan, kind);
+    let len = records::length_of(plan, kind);
     let from = post::within(start, post.len());
     let end = post::within(start + len, post.len());
     steps::judge_bytes(plan, x, &post[from..end])

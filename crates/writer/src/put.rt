@@ -5,6 +5,7 @@ ghost use Prim.Native.Nat.{_+_, _*_, _≤_};
 ghost use lib.ListN.{length, take};
 ghost use Rattle.laws.specs.Codec.{encRow};
 ghost use Rattle.laws.specs.Tray.{onto};
+ghost use Rattle.house.specs.Limits.{mostDistricts, mostJobs};
 ghost use Rattle.records.specs.Fields.{ballots, stamps, rows};
 ghost use Rattle.records.specs.Bytes.{section, headBytes};
 use house::Ballot;
@@ -67,7 +68,7 @@ pub fn put_head(t: &mut [u8], r: Record) -> usize
 
 // a count, and so many ballots
 pub fn put_ballots(t: &mut [u8], l: [Ballot; house::DISTRICTS], n: u8) -> usize
-    requires { ⌜ (n ≤ 4) × (1 + n * 3 ≤ length (now t)) ⌝ }
+    requires { ⌜ (n ≤ mostDistricts) × (1 + n * 3 ≤ length (now t)) ⌝ }
     ensures { λ u. ⌜ (u ≡ 1 + n * 3) × (now (t .exit) ≡ onto (section n (encRow ballots (take n l))) (now (t .entry))) ⌝ }
 {
     t[0] = n;
@@ -97,7 +98,7 @@ pub fn put_stamps(t: &mut [u8], l: [Stamp; records::STAMPS], n: u8) -> usize
 }
 
 pub fn put_rows(t: &mut [u8], l: [Row; house::JOBS], n: u8) -> usize
-    requires { ⌜ (n ≤ 64) × (1 + n * 11 ≤ length (now t)) ⌝ }
+    requires { ⌜ (n ≤ mostJobs) × (1 + n * 11 ≤ length (now t)) ⌝ }
     ensures { λ u. ⌜ (u ≡ 1 + n * 11) × (now (t .exit) ≡ onto (section n (encRow rows (take n l))) (now (t .entry))) ⌝ }
 {
     t[0] = n;

@@ -1,55 +1,32 @@
 -- `reader::get::read_ballots` meets its contract.
-use Rattle.reader.proofs.laws.Turns.{read-turn}
+use Rattle.reader.proofs.laws.Turns.{Taken, taken-none, taken-turn, taken-all}
 use Rattle.records.specs.Fields.{ballots}
+use Rattle.house.specs.Limits.{mostDistricts}
 use Rattle.house.specs.Pairs.{noBallot}
-use Rattle.laws.specs.Codec.{decRow}
-use native.Mathlib.Omega.{arith}
-use lib.ListN.{replicate}
-use mathlib.Core.List.{_++_}
-use Prim.Native.Nat.{_-_, _≤_}
-use mathlib.Core.Path.{_≡_, refl, _∙_}
+use Prim.Native.Nat.{_-_}
+use mathlib.Core.Path.{refl}
 use borrow.Author.Needs.{needs}
 use Rattle.reader.proofs.get.read_ballots.Statement.{statement}
 use Rattle.reader.proofs.get.read_ballots.Tie as tie
 
 abbrev Inv-loop : tie.InvT-loop
-Inv-loop s n out₀ i₀ out i = (i ≤ n) × (out ≡ decRow ballots i s ++ replicate (4 - i) noBallot)
+Inv-loop s n out₀ i₀ out i = Taken ballots mostDistricts noBallot s n out i
 
 abbrev μ-loop : tie.MeasureT-loop
 μ-loop s n out₀ i₀ out i = n - i
 
-loop-holds : tie.Need-loop-holds Inv-loop μ-loop
-loop-holds c = (search needs, refl)
-
 loop-again : tie.Need-loop-again Inv-loop μ-loop
 unfolding ballots
-loop-again c =
-    let read-ballot-result = c .read-ballot .result in
-    let read-ballot-says = c .read-ballot .ensures in
-    let a = c .before .before .before .before .before .args in
-    let asked = c .before .before .before .before .before .pre in
-    let l = c .before .before .before .loop in
-    (omega arith, read-turn ballots 4 noBallot (a .s .now) (l .i) (l .out) (read-ballot-result) (omega (arith, asked)) (l .inv .1) (read-ballot-says))
-
-returns : tie.Need-returns Inv-loop μ-loop
-returns c = let a = c .before .before .before .args in let l = c .before .loop in let e : l .i ≡ a .n = omega arith in l .inv .1 ∙ rw e
+loop-again c = taken-turn refl (search needs) (c .before .before .before .loop .inv) (c .read-ballot .ensures)
 
 pub read-ballots-spec : {M : Type 1} → statement M
 read-ballots-spec =
     tie.close
-    (tie.spec
-    Inv-loop
-    μ-loop
-    loop-holds
-    (λ c. search needs)
-    (λ c. search needs)
-    (λ c. search needs)
-    (λ c. search needs)
-    (λ c. search needs)
+    (tie.spec Inv-loop μ-loop
     (λ c κs. search needs)
-    (λ c. search needs)
-    (λ c. search needs)
-    (λ c. search needs)
-    (λ c. search needs)
+    (λ c. taken-none (search needs) (c .no-ballot .ensures))
+    (λ c. search needs) (λ c. search needs) (λ c. search needs) (λ c. search needs) (λ c. search needs)
+    (λ c κs. search needs)
+    (λ c. search needs) (λ c. search needs) (λ c. search needs) (λ c. search needs)
     loop-again
-    returns)
+    (λ c. taken-all (search needs) (c .before .loop .inv)))

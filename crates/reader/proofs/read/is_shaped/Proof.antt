@@ -22,7 +22,7 @@ returns-3 : tie.Need-returns-3
 unfolding shaped
 returns-3 c =
     let if3-left = c .if3 .left in
-    let length-of-says = c .before .length-of .ensures in
+    let length-of-says = c .before .length-of .ensures .0 in
     let if2-taken = c .before .before .if2 .taken in
     let is-known-says = c .before .before .before .is-known .ensures in
     let at-5 = c .before .before .before .before .before in
@@ -38,7 +38,7 @@ shared-slice-read-result-3 c =
     let at-6 = c .before .before .before .before .before .before in
     let if3-taken = at-6 .if3 .taken in
     let at-7 = at-6 .before in
-    let length-of-says = at-7 .length-of .ensures in
+    let length-of-says = at-7 .length-of .ensures .0 in
     let a = at-7 .before .before .before .before .before .before .args in
     omega (arith, stamps-at-says .0, if3-taken, length-of-says, stamps-inside (a .plan) (getD (a .s .now) 1 0))
 
@@ -48,7 +48,7 @@ shared-slice-read-result-4 c =
     let rows-at-says = at-6 .rows-at .ensures in
     let if3-taken = at-6 .before .before .if3 .taken in
     let at-9 = at-6 .before .before .before in
-    let length-of-says = at-9 .length-of .ensures in
+    let length-of-says = at-9 .length-of .ensures .0 in
     let a = at-9 .before .before .before .before .before .before .args in
     omega (arith, rows-at-says .0, if3-taken, length-of-says, rows-inside (a .plan) (getD (a .s .now) 1 0))
 
@@ -63,7 +63,7 @@ returns-4 c =
     let stamps-at-says = at-4 .before .before .before .before .stamps-at .ensures in
     let if3-taken = at-4 .before .before .before .before .before .if3 .taken in
     let at-10 = at-4 .before .before .before .before .before .before in
-    let length-of-says = at-10 .length-of .ensures in
+    let length-of-says = at-10 .length-of .ensures .0 in
     let if2-taken = at-10 .before .if2 .taken in
     let is-known-says = at-10 .before .before .is-known .ensures in
     let if1-left = at-10 .before .before .before .before .if1 .left in

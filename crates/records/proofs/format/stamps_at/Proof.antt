@@ -1,8 +1,8 @@
--- `reader::read::stamps_at` meets its contract.
+-- `records::format::stamps_at` meets its contract.
 use Rattle.records.specs.Bytes.{stampsAt}
 use borrow.Author.Needs.{needs}
-use Rattle.reader.proofs.read.stamps_at.Statement.{statement}
-use Rattle.reader.proofs.read.stamps_at.Tie as tie
+use Rattle.records.proofs.format.stamps_at.Statement.{statement}
+use Rattle.records.proofs.format.stamps_at.Tie as tie
 
 returns : tie.Need-returns
 unfolding stampsAt

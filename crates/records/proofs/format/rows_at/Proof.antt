@@ -1,8 +1,8 @@
--- `reader::read::rows_at` meets its contract.
+-- `records::format::rows_at` meets its contract.
 use Rattle.records.specs.Bytes.{rowsAt}
 use borrow.Author.Needs.{needs}
-use Rattle.reader.proofs.read.rows_at.Statement.{statement}
-use Rattle.reader.proofs.read.rows_at.Tie as tie
+use Rattle.records.proofs.format.rows_at.Statement.{statement}
+use Rattle.records.proofs.format.rows_at.Tie as tie
 
 returns : tie.Need-returns
 unfolding rowsAt

@@ -1,12 +1,12 @@
--- `reader::read::length_of` meets its contract.
+-- `records::format::length_of` meets its contract.
 use Rattle.records.specs.Bytes.{lengthOf}
 use borrow.Author.Needs.{needs}
-use Rattle.reader.proofs.read.length_of.Statement.{statement}
-use Rattle.reader.proofs.read.length_of.Tie as tie
+use Rattle.records.proofs.format.length_of.Statement.{statement}
+use Rattle.records.proofs.format.length_of.Tie as tie
 
 returns : tie.Need-returns
 unfolding lengthOf
-returns c = rw (c .rows-in .ensures, c .before .rows-at .ensures .0)
+returns c = (rw (c .rows-in .ensures, c .before .rows-at .ensures .0), search needs)
 
 pub length-of-spec : {M : Type 1} → statement M
 length-of-spec =
