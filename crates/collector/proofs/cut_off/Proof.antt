@@ -1,5 +1,5 @@
 -- `collector::cut_off` meets its contract.
-use Rattle.sending.proofs.laws.Sends.{encode-none}
+use Rattle.records.proofs.laws.Bytes.{encode-none}
 use Rattle.boxes.specs.Out.{guard}
 use Rattle.boxes.specs.Step.{cutOff}
 use Rattle.boxes.proofs.laws.Promise.{says-result}

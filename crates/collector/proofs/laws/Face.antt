@@ -39,7 +39,7 @@ use Rattle.stays_sound.proofs.laws.Size.{sizeOfRec, record-size, few-most}
 use Rattle.boxes.proofs.laws.Sound.{sound-plan}
 use Rattle.boxes.proofs.laws.Answers.{retry-is, stand-is}
 use Rattle.sending.specs.Sends.{Sends, sentBytes, sentCount}
-use Rattle.sending.proofs.laws.Sends.{encode-none}
+use Rattle.records.proofs.laws.Bytes.{encode-none}
 use Rattle.sending.specs.declared.Sent.{Sent}
 use Rattle.collector.specs.Face.{admission, refusal, unlessNo, Answering, Written}
 

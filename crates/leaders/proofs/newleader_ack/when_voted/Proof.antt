@@ -2,7 +2,7 @@
 use Rattle.leaders.proofs.laws.Voted.{states-sent}
 use Rattle.leaders.proofs.laws.Votes.{quorum-held}
 use Rattle.boxes.specs.NewleaderAck.{whenVoted}
-use Rattle.sending.proofs.laws.Sends.{encode-none}
+use Rattle.records.proofs.laws.Bytes.{encode-none}
 use Rattle.house.proofs.laws.Says.{plan-says}
 use Rattle.laws.proofs.laws.Tray.{onto-nil}
 use Rattle.laws.proofs.laws.Choice.{pick-true, pick-false}

@@ -1,5 +1,6 @@
 -- `rehearsal::judging::judge_stand` meets its contract.
-use Rattle.rehearsal.proofs.laws.Steps.{judges-no, judges-go, none-such, box-there, box-missing, acts-no, goes-kept, stand-unsound, stand-acts, stand-keeps}
+use Rattle.rehearsal.proofs.laws.Steps.{judges-no, judges-go, none-such, box-there, box-missing, acts-no, goes-kept}
+use Rattle.rehearsal.proofs.laws.Steps.{stand-unsound, stand-acts, stand-keeps}
 use Rattle.rehearsal.specs.Alone.{here}
 use Rattle.rehearsal.specs.Night.{exists}
 use Rattle.rehearsal.specs.declared.Order.the-variants.{Stand}

@@ -1,7 +1,7 @@
 -- `rehearsal::settling::step` meets its contract.
 use Rattle.rehearsal.proofs.laws.Steps.{sends-fit}
 use Rattle.laws.proofs.laws.Tray.{onto-nil}
-use Rattle.sending.proofs.laws.Sends.{encode-none}
+use Rattle.records.proofs.laws.Bytes.{encode-none}
 use mathlib.Core.Path.{sym}
 use borrow.Author.Needs.{needs}
 use Rattle.rehearsal.proofs.settling.step.Statement.{statement}
