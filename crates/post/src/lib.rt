@@ -14,7 +14,7 @@ use house::Plan;
 // the shortest record, the most records that a post holds, and the room of an index that has a place for each of them and one behind
 const LEAST_RECORD: usize = 8;
 
-pub const MOST_RECORDS: usize = house::MOST_POST / LEAST_RECORD;
+const MOST_RECORDS: usize = house::MOST_POST / LEAST_RECORD;
 
 pub const INDEX_ROOM: usize = MOST_RECORDS + 1;
 
@@ -71,13 +71,6 @@ fn start_from(plan: Plan, s: &[u8], used: usize, from: usize, k: u32) -> usize
         at = next_start(plan, s, used, at);
     }
     at
-}
-
-// where record k begins
-pub fn start_of(plan: Plan, s: &[u8], used: usize, k: u32) -> usize
-    ensures { λ r. ⌜ (r ≡ startOf plan (now (s .entry)) used k) × (r ≤ mostPlace) ⌝ }
-{
-    start_from(plan, s, used, 0, k)
 }
 
 // the index goes on until it has record k, or as far as records lie within what is used and its room goes: the last record that it has

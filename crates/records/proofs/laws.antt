@@ -6,6 +6,7 @@ pub mod Kinds
 pub mod Outcome
 pub mod Examples
 pub mod Sections
+pub mod Bytes
 pub mod Lengths
 pub mod Shapes
 pub mod Obeys

@@ -58,7 +58,8 @@ bad =
     ∷ newleader (boxNo 0) (boxNo 3) (ballot 1 0)
     ∷ newleader (boxNo 0) (boxNo 1) (ballot 1 1)
     ∷ newleader (boxNo 0) (boxNo 1) noBallot
-    -- 6: the ballot is not the addressee's; cballot not lower; of another district; clock of another district; a row of a job not named; a start row with a stamp
+    -- 6: the ballot is not the addressee's; cballot not lower; of another district; clock of another district; a row of a job not named;
+    -- a start row with a stamp
     ∷ newleader-ack (boxNo 1) (boxNo 0) (record { ballot = ballot 2 1; cballot = ballot 1 1; clock = stamp 0 0; table = noRow ∷ noRow ∷ [] })
     ∷ newleader-ack (boxNo 1) (boxNo 0) (record { ballot = ballot 2 0; cballot = ballot 2 0; clock = stamp 0 0; table = noRow ∷ noRow ∷ [] })
     ∷ newleader-ack (boxNo 1) (boxNo 0) (record { ballot = ballot 2 0; cballot = ballot 1 3; clock = stamp 0 0; table = noRow ∷ noRow ∷ [] })

@@ -52,8 +52,15 @@ carried (deliver from to j y) =
 carried (newleader from to b) =
     record { kind = 5; from = from; to = to; job = noJob; ballots = oneBallot b; stamps = twoStamps noStamp noStamp; table = noRows }
 carried (newleader-ack from to y) =
-    record
-    { kind = 6; from = from; to = to; job = noJob; ballots = y .ballot ∷ y .cballot ∷ noBallot ∷ noBallot ∷ []; stamps = twoStamps (y .clock) noStamp; table = y .table }
+    record {
+      kind = 6;
+      from = from;
+      to = to;
+      job = noJob;
+      ballots = y .ballot ∷ y .cballot ∷ noBallot ∷ noBallot ∷ [];
+      stamps = twoStamps (y .clock) noStamp;
+      table = y .table;
+    }
 carried (new-state from to y) =
     record { kind = 7; from = from; to = to; job = noJob; ballots = oneBallot (y .ballot); stamps = twoStamps (y .clock) noStamp; table = y .table }
 carried (newstate-ack from to b) =

@@ -9,6 +9,9 @@ use house::District;
 use house::Plan;
 use house::Stamp;
 
+// how many values a byte has: a flag for each
+const BYTES: usize = 256;
+
 pub fn range_sound(plan: Plan, x: BoxState) -> bool
     ensures { λ r. ⌜ r ≡ rangeSound plan x ⌝ }
 {
@@ -92,7 +95,7 @@ pub fn list_sound(plan: Plan, x: BoxState) -> bool
     let home = house::home_of(plan, own);
     let first = list[0];
     let mut last = first.stamp;
-    let mut seen = [false; 256];
+    let mut seen = [false; BYTES];
     let mut ok = true;
     for i in 0..house::MOST_JOBS {
         let at = i as usize;

@@ -9,7 +9,7 @@ use Rattle.house.specs.Plan.{homeOf}
 use Rattle.house.specs.declared.Plan.{Plan}
 use Rattle.house.specs.Marks.{marked}
 use Rattle.records.specs.Answers.{orNo}
-use Rattle.records.specs.Rec.{newstate-ack}
+use Rattle.records.specs.Rec.{Rec, newstate-ack}
 use Rattle.records.specs.declared.Proposal.{Proposal}
 use Rattle.records.specs.declared.Handout.{Handout}
 use Rattle.records.specs.declared.Ballotpaper.{Ballotpaper}
@@ -29,6 +29,7 @@ use Rattle.boxes.specs.NewstateAck.{leading, onNewstateAck, newstateAckA
 use Rattle.boxes.specs.Retry.{retries, retry, retryAnswer}
 use Rattle.boxes.specs.Stand.{standing, stand, standAnswer}
 use Rattle.boxes.specs.declared.BoxState.{BoxState}
+use Rattle.boxes.specs.declared.Delivery.{Delivery}
 use Rattle.boxes.specs.declared.Delivery.the-variants.{Nothing, Job}
 
 -- a test before a step under an answer: its own number comes first
@@ -36,6 +37,12 @@ pub under-or : (t : Bool) (n : ℕ) (a : Answer) (o : Out) → under (orNo t n a
 unfolding guard
 under-or true n a o = refl
 under-or false n a o = refl
+
+-- what is done behind a guard has passed it
+pub guard-does : (t : Bool) (n : ℕ) (o : Out) {x : BoxState} {l : List Rec} {d : Delivery} → guard t n o ≡ does x l d → (t ≡ true) × (o ≡ does x l d)
+unfolding guard
+guard-does true n o e = (refl, e)
+guard-does false n o e = (cc, cc)
 
 module _ (P : Plan) (x : BoxState) where
   pub multicast-is : (j : ℕ) {a : Answer}

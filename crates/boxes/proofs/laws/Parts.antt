@@ -128,8 +128,11 @@ kept-is P x j d (is-kept n b s) =
 pub kepts-say : (P : Plan) (x : BoxState) → allKeptSound P x ≡ true → KeptsOk P (x .volatile .«kept_ballots») (x .volatile .«kept_stamps»)
 unfolding allKeptSound jobKeptSound keptBallot keptStamp
 kepts-say P x h =
-    record
-    { pair = λ j d lj ld. kept-says P x j (district d) (all-says (λ e. keptSound P x j (district e)) mostDistricts (all-says (jobKeptSound P x) mostJobs h j lj) d ld) }
+    record {
+      pair = λ j d lj ld.
+          let all-districts = all-says (jobKeptSound P x) mostJobs h j lj in
+          kept-says P x j (district d) (all-says (λ e. keptSound P x j (district e)) mostDistricts all-districts d ld);
+    }
 
 pub kepts-are : (P : Plan) (x : BoxState) → KeptsOk P (x .volatile .«kept_ballots») (x .volatile .«kept_stamps») → allKeptSound P x ≡ true
 unfolding allKeptSound jobKeptSound keptBallot keptStamp

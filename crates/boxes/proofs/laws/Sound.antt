@@ -103,8 +103,12 @@ no-vote-says : (v : Vote) → unvoted v ≡ true → NoVote v
 unfolding unvoted
 no-vote-says v h =
     let a = both h in let b = both (a .0) in let c = both (a .1) in
-    record
-    { voter = eqb-true (v .voter .0) 0 (b .0); cballot = no-ballot-says (v .cballot) (b .1); clock = eqb-true (v .clock) 0 (c .0); table = no-rows-say (v .table) (c .1) }
+    record {
+      voter = eqb-true (v .voter .0) 0 (b .0);
+      cballot = no-ballot-says (v .cballot) (b .1);
+      clock = eqb-true (v .clock) 0 (c .0);
+      table = no-rows-say (v .table) (c .1);
+    }
 
 no-vote-is : (v : Vote) → NoVote v → unvoted v ≡ true
 unfolding unvoted

@@ -56,8 +56,13 @@ first-some n j (suc k) e = go (look (firstBelow n j k .found)) (look (isCommitte
     go (inl t) u r =
         let z = r t in
         let b = z .is-box in
-        record
-        { box = z .box; is-box = omega arith; committed = z .committed; stamped = ap (λ (x : Committed). x .stamp) (step-found n j k t) ∙ z .stamped; lowest = z .lowest }
+        record {
+          box = z .box;
+          is-box = omega arith;
+          committed = z .committed;
+          stamped = ap (λ (x : Committed). x .stamp) (step-found n j k t) ∙ z .stamped;
+          lowest = z .lowest;
+        }
     go (inr t) (inl u) r =
         record { box = k; is-box = omega arith; committed = u; stamped = ap (λ (x : Committed). x .stamp) (step-hit n j k t u); lowest = first-none n j k t }
     go (inr t) (inr u) r = never (sym (ap (λ (x : Committed). x .found) (step-miss n j k t u)) ∙ e) t

@@ -1,5 +1,5 @@
 -- `collector::cut_off` meets its contract.
-use Rattle.sending.proofs.laws.Sends.{encode-none}
+use Rattle.records.proofs.laws.Bytes.{encode-none}
 use Rattle.boxes.specs.Out.{guard}
 use Rattle.boxes.specs.Step.{cutOff}
 use Rattle.boxes.proofs.laws.Promise.{says-result}
@@ -16,7 +16,8 @@ returns-2 : tie.Need-returns-2
 unfolding cutOff guard
 returns-2 c =
     let s = c .before .before .before in
-    says-result (c .done .ensures ∙ rw (sym (s .is-sound .ensures) ∙ c .before .before .if1 .taken, c .before .cut-box .ensures, encode-none (s .before .args .plan)))
+    let known = sym (s .is-sound .ensures) ∙ c .before .before .if1 .taken in
+    says-result (c .done .ensures ∙ rw (known, c .before .cut-box .ensures, encode-none (s .before .args .plan)))
 
 pub cut-off-spec : {M : Type 1} → statement M
 cut-off-spec = tie.close (tie.spec (λ c κs. search needs) (λ c κs. search needs) returns (λ c κs. search needs) (λ c κs. search needs) returns-2)

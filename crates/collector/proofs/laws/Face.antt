@@ -36,7 +36,7 @@ use Rattle.stays_sound.proofs.laws.Sends.{Sized, in-each, each-most}
 use Rattle.stays_sound.proofs.laws.Size.{sizeOfRec, record-size, few-most}
 use Rattle.boxes.proofs.laws.Sound.{sound-plan}
 use Rattle.boxes.proofs.laws.Answers.{retry-is, stand-is}
-use Rattle.sending.proofs.laws.Sends.{encode-none}
+use Rattle.records.proofs.laws.Bytes.{encode-none}
 use Rattle.collector.specs.Face.{admission, Answering}
 
 pub two-go : {known t : Bool} (room : ℕ) → known ≡ t → admission known room ≡ Done → (t ≡ true) × (leastTray ≤ room)

@@ -67,6 +67,11 @@ pub boxes-most : (P : Plan) → planSound P ≡ true → boxesOf P ≤ 12
 unfolding boxesOf sizeOf
 boxes-most P h = let S = plan-says P h in omega (arith, S .districts-most)
 
+-- a sound plan has a box 0
+pub some-box : (P : Plan) → planSound P ≡ true → 0 < boxesOf P
+unfolding boxesOf sizeOf
+some-box P h = let S = plan-says P h in omega (arith, S .some-district)
+
 -- a box and its district
 pub box-says : (P : Plan) (p : BoxNo) → isBox P p ≡ true → p .0 < boxesOf P
 unfolding isBox

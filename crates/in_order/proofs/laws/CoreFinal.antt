@@ -48,8 +48,12 @@ final-now {os = os} S = record { first = os; rest = []; split = sym (append-nil 
 -- a final stamp stays one, whatever orders follow
 pub final-later : {P : Plan} {os : List Order} {m : ℕ} {s : Stamp} → FinalStamp P os m s → (later : List Order) → FinalStamp P (os ++ later) m s
 final-later F later =
-    record
-    { first = F .first; rest = F .rest ++ later; split = ap (λ (l : List Order). l ++ later) (F .split) ∙ append-assoc (F .first) (F .rest) later; shows = F .shows }
+    record {
+      first = F .first;
+      rest = F .rest ++ later;
+      split = ap (λ (l : List Order). l ++ later) (F .split) ∙ append-assoc (F .first) (F .rest) later;
+      shows = F .shows;
+    }
 
 -- every final stamp of a run has a certificate in its last world
 pub final-cert : {P : Plan} {os : List Order} {m : ℕ} {s : Stamp} → ((first : List Order) → Inv P (after P first)) → FinalStamp P os m s

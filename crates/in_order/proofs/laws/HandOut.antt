@@ -268,7 +268,8 @@ module _ (P : Plan) (x : BoxState) (known : ownOf x .0 < boxesOf P) (long : leng
             to = z .0;
             is = z .1;
             first = λ k lk rk o. let W = went k lk rk o in
-                (W .place, (let b = at-lt s (W .place) (W .there) in omega arith), record { from = ownOf x; to = ownOf x; there = at-left s goes (W .place) (W .there) });
+                let b = at-lt s (W .place) (W .there) in
+                (W .place, omega arith, record { from = ownOf x; to = ownOf x; there = at-left s goes (W .place) (W .there) });
           }
 
       flags : (i : ℕ) {from to : BoxNo} {m : ℕ} {y : Handout} → Side s goes i (deliver from to m y) → getD (set l j true) m false ≡ true

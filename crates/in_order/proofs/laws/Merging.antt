@@ -265,7 +265,9 @@ module _ (P : Plan) (l : List Rec) (y : NewState) (old new : Vote) (plan : planS
             plan
             (votes-different P (homeOf P (y .ballot .owner)) old new vs shape new-box new-home old-box old-home apart)
             (omega (arith, voters-long vs, votes-long old new vs shape))
-            (λ u i. let z = in-map (λ (v : Vote). v .voter) vs i in rw (z .2) (record { paper = stands (z .0) (z .1) .kept .paper; voter = voter-is (z .0) (z .1) }));
+            (λ u i.
+            let z = in-map (λ (v : Vote). v .voter) vs i in
+            rw (z .2) (record { paper = stands (z .0) (z .1) .kept .paper; voter = voter-is (z .0) (z .1) }));
         highest = T .vote .voter;
         paper = stands (T .vote) (T .there) .kept .paper;
         voter = voter-is (T .vote) (T .there);

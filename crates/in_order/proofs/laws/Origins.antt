@@ -97,7 +97,8 @@ module _ (P : Plan) (w : World) (p : BoxNo) (known : p .0 < boxesOf P) (F : Form
       let e = proposed-is P w p known F a n in
       let low = names-job P (a .j) (homeIn P (the w p)) (a .named) in
       let few = plan-says P (F .plan) .jobs-most in
-      let q : rowIn (proposed P (the w p) (a .j) .core .table) (a .j) ≡ record { phase = 1; local = stamp (the w p .core .clock + 1) (homeIn P (the w p) .0); global = noStamp }
+      let q : rowIn (proposed P (the w p) (a .j) .core .table) (a .j)
+      ≡ record { phase = 1; local = stamp (the w p .core .clock + 1) (homeIn P (the w p) .0); global = noStamp }
       = ap (λ (x : BoxState). rowIn (x .core .table) (a .j)) e ∙ getD-set-same (the w p .core .table) (a .j) _ noRow (omega (arith, F .box p known .table)) in
       record {
         sound = a .sound;
@@ -236,8 +237,16 @@ module _ (P : Plan) (w : World) (p : BoxNo) (known : p .0 < boxesOf P) (F : Form
       go (o-deliver y f H G) =
           let e = G .is in
           let ej : G .job ≡ j = cc in
-          record
-          { y = y; hand-from = f; hand = H; low = rw ej at (G .low); ready-it = rw ej at (G .ready-it); by = cc; is = rw (← ej) (payload e); first = rw ej at (G .first) }
+          record {
+            y = y;
+            hand-from = f;
+            hand = H;
+            low = rw ej at (G .low);
+            ready-it = rw ej at (G .ready-it);
+            by = cc;
+            is = rw (← ej) (payload e);
+            first = rw ej at (G .first);
+          }
         where
           payload : {f₁ t₁ f₂ t₂ : BoxNo} {j₁ j₂ : ℕ} {y₁ y₂ : Handout} → deliver f₁ t₁ j₁ y₁ ≡ deliver f₂ t₂ j₂ y₂ → y₁ ≡ y₂
           payload e = cc

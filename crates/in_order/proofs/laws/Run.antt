@@ -1,18 +1,15 @@
 -- The STEP invariants hold in every world that orders make of fresh boxes and an empty post.
 -- Each step may use the STATE lemmas, which follow from the invariants inside the world before it (Core..).
-use Prim.Native.Nat.{ℕ, zero, suc, _<_}
+use Prim.Native.Nat.{ℕ, _<_}
 use mathlib.Core.Bool.{true, false}
 use mathlib.Core.List.{List, [], _∷_}
-use mathlib.Core.Logic.{⊎-elim}
 use mathlib.Core.Path.{_≡_, refl, ap, _∙_}
-use native.Mathlib.Nat.{eq-or-lt-of-le}
 use native.Mathlib.Omega.{arith}
-use lib.ListN.{length, getD, replicate, length-append, length-replicate, List·getD-append}
-use lib.Seq.{getD-at}
+use lib.ListN.{replicate, length-replicate}
 use Rattle.laws.proofs.laws.Choice.{never}
 use Rattle.laws.proofs.laws.Place.{at-nil, in-nil}
 use Rattle.house.specs.Limits.{mostJobs}
-use Rattle.house.specs.Pairs.{boxNo, noStamp, noBallot, noRow, isNoBallot}
+use Rattle.house.specs.Pairs.{noStamp, noBallot, noRow, isNoBallot}
 use Rattle.house.proofs.laws.Orders.{ballotOrder}
 use Rattle.house.specs.declared.Stamp.{Stamp}
 use Rattle.house.specs.declared.Ballot.{Ballot}
@@ -24,7 +21,8 @@ use Rattle.house.specs.Marks.{noMarks, hasMark}
 use Rattle.house.proofs.laws.Quorums.{no-mark}
 use Rattle.boxes.specs.Box.{isLeader, isRecovering, fresh, freshVolatile, keptAt, keptBallot, marksAt, sentAt, noListed}
 use Rattle.boxes.specs.declared.BoxState.{BoxState}
-use Rattle.world.specs.World.{World, Order, new, freshBoxes, step, run}
+use Rattle.world.specs.World.{World, Order, new, step, run}
+use Rattle.world.proofs.laws.Fresh.{fresh-length, fresh-at}
 use Rattle.in_order.proofs.laws.Compare.{le-refl}
 use Rattle.in_order.proofs.laws.Laws.{one-value}
 use Rattle.in_order.proofs.laws.Notions.{the, rowIn, Lam, stated, asked}
@@ -75,20 +73,6 @@ inv-step P w o I S = go (view P w o)
 
 -- ---- fresh boxes
 
-fresh-long : (n : ℕ) → length (freshBoxes n) ≡ n
-unfolding freshBoxes
-fresh-long zero = refl
-fresh-long (suc n) = length-append (freshBoxes n) _ ∙ (let e = fresh-long n in omega arith)
-
-fresh-at : (n p : ℕ) → p < n → getD (freshBoxes n) p (fresh (boxNo 0)) ≡ fresh (boxNo p)
-unfolding freshBoxes
-fresh-at zero p l = absurd (omega arith)
-fresh-at (suc n) p l =
-    ⊎-elim
-    (λ (e : p ≡ n). rw e (getD-at (freshBoxes n) (fresh (boxNo n)) [] (fresh (boxNo 0)) n (fresh-long n)))
-    (λ (h : p < n). List·getD-append (freshBoxes n) _ (fresh (boxNo 0)) p (omega (arith, fresh-long n)) ∙ fresh-at n p h)
-    (eq-or-lt-of-le {n = p} {m = n} (omega arith))
-
 module _ (P : Plan) (plan : planSound P ≡ true) where
   box-is : (p : BoxNo) → p .0 < boxesOf P → the (new P) p ≡ fresh p
   unfolding new
@@ -125,7 +109,7 @@ module _ (P : Plan) (plan : planSound P ≡ true) where
   new-forms =
       record {
         plan = plan;
-        size = fresh-long (boxesOf P);
+        size = fresh-length (boxesOf P);
         box = each (λ p x. BoxForm P p x) fresh-form;
         acc = λ h. absurd (in-nil (h .there));
         ack = λ h. absurd (in-nil (h .there));

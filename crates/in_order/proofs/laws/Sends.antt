@@ -1,7 +1,7 @@
 -- Records that a step sends: which they are, and that one to each box that is meant is among them.
 -- And small laws of guards and of unlike records that the view and the origins use.
 use Prim.Native.Nat.{ℕ, zero, suc, _<_}
-use mathlib.Core.Bool.{Bool, true, false}
+use mathlib.Core.Bool.{Bool, true}
 use mathlib.Core.List.{List, [], _∷_, _++_}
 use mathlib.Core.Logic.{_⊎_, inl, inr, ⊎-elim}
 use mathlib.Core.Path.{_≡_, refl}
@@ -17,18 +17,13 @@ use Rattle.house.specs.declared.BoxNo.{BoxNo}
 use Rattle.house.specs.Plan.{boxesOf}
 use Rattle.house.specs.declared.Plan.{Plan}
 use Rattle.records.specs.Rec.{Rec}
-use Rattle.boxes.specs.Out.{Out, does, guard, toEach}
+use Rattle.boxes.specs.Out.{does, toEach}
 use Rattle.boxes.specs.declared.BoxState.{BoxState}
 use Rattle.boxes.specs.declared.Delivery.{Delivery}
 
 -- any goal from two unlike constructors
 pub clash : {A : Type 0} → _≡_ {A = ℕ} 0 1 → A
 clash z = absurd (omega arith)
-
-pub guard-does : (t : Bool) (n : ℕ) (o : Out) {x : BoxState} {l : List Rec} {d : Delivery} → guard t n o ≡ does x l d → (t ≡ true) × (o ≡ does x l d)
-unfolding guard
-guard-does true n o e = (refl, e)
-guard-does false n o e = (clash (cc), clash (cc))
 
 pub does-box : {a x : BoxState} {b l : List Rec} {c d : Delivery} → does a b c ≡ does x l d → x ≡ a
 does-box e = cc

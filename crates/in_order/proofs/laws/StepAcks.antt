@@ -50,8 +50,11 @@ use Rattle.in_order.proofs.laws.Facts.{cballot-upto}
 stay-clock : {P : Plan} {l : List Rec} {j : ℕ} {f : District → Ballot} {g : District} {k k′ : ℕ} {t : List Row} → k ≤ k′ → Stay P l j f g k t
     → Stay P l j f g k′ t
 stay-clock u h =
-    record
-    { phase = h .phase; local = h .local; times = λ d n. let T = h .times d n in record { stamp = T .stamp; acc = T .acc; upto = (let q = T .upto in omega arith) } }
+    record {
+      phase = h .phase;
+      local = h .local;
+      times = λ d n. let T = h .times d n in record { stamp = T .stamp; acc = T .acc; upto = (let q = T .upto in omega arith) };
+    }
 
 module _ (P : Plan) (w : World) (p : BoxNo) (known : p .0 < boxesOf P) (m : Move P w p) (I : Inv P w) (S : State P w) where
   F : Forms P w

@@ -87,16 +87,32 @@ module _ {p o : BoxNo} {t : List Row} {f : List Bool} {l : List Listed} {c : ℕ
     (B : Sizes p o t f l c kb ks mk) where
   with-table : {t′ : List Row} → length t′ ≡ mostJobs → Sizes p o t′ f l c kb ks mk
   with-table e =
-      record
-      { own-is = B .own-is; table-is = e; sent-is = B .sent-is; list-is = B .list-is; count-is = B .count-is; ballots-are = B .ballots-are; stamps-are = B .stamps-are; marks-are = B .marks-are }
+      record {
+        own-is = B .own-is;
+        table-is = e;
+        sent-is = B .sent-is;
+        list-is = B .list-is;
+        count-is = B .count-is;
+        ballots-are = B .ballots-are;
+        stamps-are = B .stamps-are;
+        marks-are = B .marks-are;
+      }
 
   with-row : (j : ℕ) (r : Row) → Sizes p o (set t j r) f l c kb ks mk
   with-row j r = with-table (length-set t j r ∙ B .table-is)
 
   with-sent : {f′ : List Bool} → length f′ ≡ mostJobs → Sizes p o t f′ l c kb ks mk
   with-sent e =
-      record
-      { own-is = B .own-is; table-is = B .table-is; sent-is = e; list-is = B .list-is; count-is = B .count-is; ballots-are = B .ballots-are; stamps-are = B .stamps-are; marks-are = B .marks-are }
+      record {
+        own-is = B .own-is;
+        table-is = B .table-is;
+        sent-is = e;
+        list-is = B .list-is;
+        count-is = B .count-is;
+        ballots-are = B .ballots-are;
+        stamps-are = B .stamps-are;
+        marks-are = B .marks-are;
+      }
 
   with-listed : (i : ℕ) (x : Listed) → c < mostJobs → Sizes p o t f (set l i x) (c + 1) kb ks mk
   with-listed i x h =
@@ -115,8 +131,16 @@ module _ {p o : BoxNo} {t : List Row} {f : List Bool} {l : List Listed} {c : ℕ
       → length mk′ ≡ mostJobs
       → Sizes p o t f l c kb′ ks′ mk′
   with-volatile a b e =
-      record
-      { own-is = B .own-is; table-is = B .table-is; sent-is = B .sent-is; list-is = B .list-is; count-is = B .count-is; ballots-are = a; stamps-are = b; marks-are = e }
+      record {
+        own-is = B .own-is;
+        table-is = B .table-is;
+        sent-is = B .sent-is;
+        list-is = B .list-is;
+        count-is = B .count-is;
+        ballots-are = a;
+        stamps-are = b;
+        marks-are = e;
+      }
 
   with-kept : (i : ℕ) (b : Ballot) (s : Stamp) (j m : ℕ) → Sizes p o t f l c (set kb i b) (set ks i s) (set mk j m)
   with-kept i b s j m = with-volatile (length-set kb i b ∙ B .ballots-are) (length-set ks i s ∙ B .stamps-are) (length-set mk j m ∙ B .marks-are)
@@ -131,8 +155,16 @@ module _ (P : Plan) (w : World) (p : BoxNo) (known : p .0 < boxesOf P) (I : Inv 
   old-sizes : SizesOf p (the w p)
   old-sizes =
       let B = F .box p known in
-      record
-      { own-is = B .own; table-is = B .table; sent-is = B .sent; list-is = B .list; count-is = B .count; ballots-are = B .kept-ballots; stamps-are = B .kept-stamps; marks-are = B .marks }
+      record {
+        own-is = B .own;
+        table-is = B .table;
+        sent-is = B .sent;
+        list-is = B .list;
+        count-is = B .count;
+        ballots-are = B .kept-ballots;
+        stamps-are = B .kept-stamps;
+        marks-are = B .marks;
+      }
 
   hand-sizes : (m : Move P w p) (y : BoxState) → SizesOf p y → Hand P w p m y → SizesOf p (box P w p m)
   hand-sizes m y B K = rw (K .box-is) (with-sent B (K .turned .size ∙ B .sent-is))

@@ -65,8 +65,14 @@ module _ {P : Plan} {w : World} (I : Inv P w) where
   merged-i3 M m low e =
       let K = merge-i3 I M m low e in
       let G = K .final in
-      record
-      { vector = G .vector; cert = G .cert; named = G .named; below = le-le ballotOrder (G .below) (lt-to-le ballotOrder (K .lower)); local = G .local; own = G .own }
+      record {
+        vector = G .vector;
+        cert = G .cert;
+        named = G .named;
+        below = le-le ballotOrder (G .below) (lt-to-le ballotOrder (K .lower));
+        local = G .local;
+        own = G .own;
+      }
 
   -- what is held of a new state y that stands in a longer post
   pub merge-held : {y : NewState} {l : List Rec} → Begins (w .post) l → Merge P (w .post) y → News l y → 1 ≤ y .ballot .number
@@ -170,7 +176,9 @@ module _ (P : Plan) (w : World) (p : BoxNo) (known : p .0 < boxesOf P) (m : Move
     row-i3 (proposes a ej n c k e) h = absurd (omega (arith, ap (λ (q : Row). q .phase) e))
     row-i3 (accepts a ej t n c e) h = absurd (omega (arith, ap (λ (q : Row). q .phase) e))
     row-i3 (commits-it a ej t c e) h =
-        let G = subst (λ (g : District). Final P (w .post) (a .j) g (the w p .core .cballot) (keptStamp (the w p) (a .j) (homeIn P (the w p))) (latestKept P (the w p) (a .j) (P .districts))) home-is
+        let own-stamp = keptStamp (the w p) (a .j) (homeIn P (the w p)) in
+        let last-stamp = latestKept P (the w p) (a .j) (P .districts) in
+        let G = subst (λ (g : District). Final P (w .post) (a .j) g (the w p .core .cballot) own-stamp last-stamp) home-is
         (commit-final P w p known m I a (rw (← ej) at t)) in
         rw (e, ← ej) (final-up B G)
     row-i3 (delivers-it a ej c e) h =

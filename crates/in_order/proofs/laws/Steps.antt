@@ -156,10 +156,12 @@ module _ (P : Plan) (w : World) (p : BoxNo) (known : p .0 < boxesOf P) (F : Form
   merge-sent a q =
       let A = another P (ownOf (the w p)) (own-low (a .sound)) in
       let i = each-in P (λ r. sameHome P r (ownOf (the w p)) && not (eqb (r .0) (ownOf (the w p) .0)))
-      (λ to. new-state (ownOf (the w p)) to (record { ballot = the w p .core .ballot; clock = clockStamp P (merges P w p a); table = merges P w p a .core .table }))
+      (λ to. new-state (ownOf (the w p)) to
+      (record { ballot = the w p .core .ballot; clock = clockStamp P (merges P w p a); table = merges P w p a .core .table }))
       (A .box)
       (A .known)
-      (and-both (sameHome P (A .box) (ownOf (the w p))) _ (same-home-is P (A .box) (ownOf (the w p)) (A .home)) (not-off (ne-eqb (A .box .0) (ownOf (the w p) .0) (A .other))))
+      (and-both (sameHome P (A .box) (ownOf (the w p))) _ (same-home-is P (A .box) (ownOf (the w p)) (A .home))
+      (not-off (ne-eqb (A .box .0) (ownOf (the w p) .0) (A .other))))
       in
       record { from = ownOf (the w p); to = A .box; there = in-right (w .post) _ i }
 

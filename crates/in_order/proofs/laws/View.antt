@@ -5,7 +5,6 @@ use mathlib.Core.Bool.{true, false, not, _||_}
 use mathlib.Core.List.{List, _++_}
 use mathlib.Core.Logic.{_⊎_, inl, inr}
 use mathlib.Core.Path.{_≡_, refl, sym, ap, _∙_}
-use native.Mathlib.Omega.{arith}
 use lib.Dec.{ltb, eqb}
 use lib.ListN.{getD, set}
 use borrow.Author.Tests.{ltb-true, eqb-true, eqb-false, eq-eqb, not-true}
@@ -21,7 +20,7 @@ use Rattle.house.specs.declared.Ballot.{Ballot}
 use Rattle.house.specs.declared.BoxNo.{BoxNo}
 use Rattle.house.specs.declared.District.{District}
 use Rattle.house.specs.Plan.{boxesOf, homeOf, names, planSound}
-use Rattle.house.proofs.laws.Says.{plan-says, size-real, home-box, names-district}
+use Rattle.house.proofs.laws.Says.{some-box, names-district}
 use Rattle.house.specs.declared.Plan.{Plan}
 use Rattle.records.specs.Rec.{Rec, multicast, accept, accept-ack, deliver, newleader, newleader-ack, new-state}
 use Rattle.records.specs.declared.Proposal.{Proposal}
@@ -43,7 +42,7 @@ use Rattle.boxes.specs.NewleaderAck.{whenVoted, votedBy, onNewleaderAck}
 use Rattle.boxes.specs.NewState.{onNewState}
 use Rattle.boxes.specs.NewstateAck.{onNewstateAck}
 use Rattle.boxes.specs.Step.{react, takes, retried, stood, cutOff}
-use Rattle.boxes.proofs.laws.Answers.{under-or}
+use Rattle.boxes.proofs.laws.Answers.{under-or, guard-does}
 use Rattle.boxes.specs.declared.BoxState.{BoxState}
 use Rattle.boxes.specs.declared.Delivery.{Delivery}
 use Rattle.world.specs.World.{World, Order, post, stand, retry, cut, carry, recordAt, whose, exists, acts, given, finish, step}
@@ -52,7 +51,7 @@ use Rattle.records.proofs.laws.Obeys.{valid-rules}
 use Rattle.boxes.proofs.laws.Sound.{SoundBox, sound-says}
 use Rattle.in_order.proofs.laws.Facts.{multicast-says, AcceptFacts, accept-says, AckFacts, ack-says, DeliverFacts, deliver-says, LeaderFacts}
 use Rattle.in_order.proofs.laws.Facts.{newleader-says, VoteFacts, vote-says, StateFacts, state-says, NsaFacts, nsa-says}
-use Rattle.in_order.proofs.laws.Sends.{clash, guard-does, does-box, does-sent}
+use Rattle.in_order.proofs.laws.Sends.{clash, does-box, does-sent}
 use Rattle.in_order.proofs.laws.Moves.{Multicasting, Accepting, Acking, Delivering, Joining, Voting, Stating, Leading, Move, m-post, m-retry, m-stand}
 use Rattle.in_order.proofs.laws.Moves.{m-cut, m-propose, m-again, m-keep, m-accept, m-mark, m-commit, m-deliver, m-join, m-hold, m-merge, m-state}
 use Rattle.in_order.proofs.laws.Moves.{m-lead, Does, next}
@@ -243,9 +242,6 @@ react-does P w (newstate-ack from to b) i v S x l d e = nsa-does P w from to S b
 react-does P w unknown i v S x l d e = no-does e
 
 -- ---- each order inverted
-
-pub some-box : (P : Plan) → planSound P ≡ true → 0 < boxesOf P
-some-box P h = let l = home-box P 0 0 (plan-says P h .some-district) (size-real P) in omega arith
 
 takes-does : (P : Plan) (w : World) (r : Rec) → In r (w .post) → (x : BoxState) (l : List Rec) (d : Delivery)
     → takes P (the w (addresseeOf r)) leastTray (carried r) ≡ does x l d → Does P w (addresseeOf r) x l

@@ -19,6 +19,13 @@ one-answer {a} {b} p q = go a b (p .done-is ∙ sym (q .done-is)) (p .number ∙
     go (No m) Done e f = cc
     go (No m) (No n) e f = ap No f
 
+-- a refusal is not done, and has one number
+pub no-done : {n : ℕ} {A : Type 0} → _≡_ {A = Answer} (No n) Done → A
+no-done e = let z : _≡_ {A = ℕ} 0 1 = cc in absurd (omega arith)
+
+pub no-is : {n m : ℕ} → _≡_ {A = Answer} (No n) (No m) → n ≡ m
+no-is e = cc
+
 pub answered-of : {a : Answer} (n : ℕ) → a ≡ answerOf n → Answered a (eqb n 0) n
 answered-of zero e = record { done-is = ap isDone e; number = ap answerNo e }
 answered-of (suc n) e = record { done-is = ap isDone e ∙ sym (ne-eqb (suc n) 0 (λ q. omega arith)); number = ap answerNo e }

@@ -371,4 +371,5 @@ pub valid-is : (P : Plan) (m : Rec) → planSound P ≡ true → Obeys P m → v
 unfolding valid
 valid-is P m s o =
     and-both (known (carried m .kind)) (spare P (carried m) && rules P (meaning (carried m))) (obeys-known P m o)
-    (and-both (spare P (carried m)) (rules P (meaning (carried m))) (spare-is P (carried m) (obeys-spare P m s o)) (rw (meaning-carried m) (obeys-rules P m s o)))
+    (and-both (spare P (carried m)) (rules P (meaning (carried m))) (spare-is P (carried m) (obeys-spare P m s o))
+    (rw (meaning-carried m) (obeys-rules P m s o)))

@@ -25,7 +25,7 @@ use Rattle.boxes.specs.declared.BoxState.{BoxState}
 use Rattle.boxes.specs.declared.Outcome.{Outcome}
 use Rattle.steps.proofs.laws.Acting.{guard-on}
 use Rattle.steps.proofs.laws.Judging.{guard-off}
-use Rattle.sending.proofs.laws.Sends.{encode-none}
+use Rattle.records.proofs.laws.Bytes.{encode-none}
 use Rattle.post.specs.Posting.{roomOf}
 use Rattle.post.proofs.laws.Posting.{room-most}
 use Rattle.rehearsal.specs.Night.{whose, exists, fitting, ifFits, given, postOf}

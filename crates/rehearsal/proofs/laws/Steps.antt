@@ -19,6 +19,7 @@ use Rattle.records.specs.Rec.{meaning}
 use Rattle.records.specs.declared.Answer.{Answer}
 use Rattle.records.specs.declared.Answer.the-variants.{Done, No}
 use Rattle.records.specs.declared.Record.{Record}
+use Rattle.records.proofs.laws.Answers.{no-done, no-is}
 use Rattle.post.specs.Posting.{lengthAt, startOf, bytesFrom}
 use Rattle.post.proofs.laws.Posting.{part-from}
 use Rattle.boxes.specs.Sound.{sound}
@@ -45,14 +46,8 @@ use Rattle.rehearsal.specs.Steps.{stepOf, Can, Goes, Judges}
 
 -- ---- refused, or not
 
-no-done : {n : ℕ} {A : Type 0} → _≡_ {A = Answer} (No n) Done → A
-no-done e = let z : _≡_ {A = ℕ} 0 1 = cc in absurd (omega arith)
-
 done-no : {n : ℕ} {A : Type 0} → _≡_ {A = Answer} Done (No n) → A
 done-no e = let z : _≡_ {A = ℕ} 0 1 = cc in absurd (omega arith)
-
-no-is : {n m : ℕ} → _≡_ {A = Answer} (No n) (No m) → n ≡ m
-no-is e = cc
 
 pub judges-no : {P : Plan} {used : ℕ} {x : BoxState} {s : List ℕ} {o : Order} (k : ℕ) (r : Record) → alone P used x s o ≡ refused k
     → Judges P used x s o (No k) r

@@ -128,7 +128,8 @@ module _ (P : Plan) (sound : planSound P ≡ true) (lent : List ℕ) where
         list-delivers = delivers;
         handed-before = λ os later i m k p b s t h n f o.
             handed-here (reached-at os) (beside-at os) i p k b t
-            (D .handed-before (orders os) (later-orders os later) i m k p b s t (hands-world (reached-at os) (beside-at os) i p m b s h) n (final-then os later k t f) o);
+            (D .handed-before (orders os) (later-orders os later) i m k p b s t
+            (hands-world (reached-at os) (beside-at os) i p m b s h) n (final-then os later k t f) o);
       }
     where
       delivers : (os : List Order) (o : Order) (y : BoxState) (l : List Rec) (d : Delivery) → answered P (afterwards P lent os) o ≡ does y l d

@@ -24,7 +24,7 @@ use Rattle.boxes.specs.Out.{Out, refused, does}
 use Rattle.stays_sound.proofs.laws.Sends.{arrays}
 use Rattle.world.specs.World as Worlds
 use Rattle.world.specs.World.{World, freshBoxes, new, run, step, recordAt}
-use Rattle.world.proofs.laws.Boxes.{fresh-length, fresh-at}
+use Rattle.world.proofs.laws.Fresh.{fresh-length, fresh-at}
 use Rattle.world.proofs.laws.Reached.{Reached, record-good, new-reached, reached-step, reached}
 use Rattle.world.proofs.laws.Answers.{answers}
 use Rattle.rehearsal.specs.Night as Nights
@@ -136,7 +136,12 @@ played {P} {r} {w} R S (o ∷ os) = go (look (isFull (answered P r o))) (λ v T 
         record {
           beside = rw (pick-false (kept P (after P r o) os) (told o ∷ kept P (after P r o) os) e) (p .beside);
           answers-same =
-              rw (pick-false (kept P (after P r o) os) (told o ∷ kept P (after P r o) os) e, pick-false (heard P (after P r o) os) (answered P r o ∷ heard P (after P r o) os) e, step-answer R S o e, p .answers-same);
+              rw (
+                pick-false (kept P (after P r o) os) (told o ∷ kept P (after P r o) os) e,
+                pick-false (heard P (after P r o) os) (answered P r o ∷ heard P (after P r o) os) e,
+                step-answer R S o e,
+                p .answers-same,
+              );
           long = p .long ∙ after-long R S o;
         }
 

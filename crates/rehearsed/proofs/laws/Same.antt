@@ -14,6 +14,7 @@ use Rattle.laws.specs.Place.{In}
 use Rattle.house.specs.Limits.{leastTray}
 use Rattle.house.specs.Pairs.{boxNo}
 use Rattle.house.specs.Plan.{boxesOf, isJob, planSound}
+use Rattle.house.proofs.laws.Says.{some-box}
 use Rattle.house.specs.declared.Plan.{Plan}
 use Rattle.records.specs.Rec.{Rec, carried, senderOf, addresseeOf}
 use Rattle.records.specs.Bytes.{encode, encodeAll}
@@ -28,7 +29,6 @@ use Rattle.boxes.specs.declared.Delivery.the-variants.{Nothing}
 use Rattle.stays_sound.proofs.laws.Sends.{Good, Sized, arrays}
 use Rattle.world.specs.World as Worlds
 use Rattle.world.specs.World.{World, boxAt, recordAt, post, stand, retry, cut, carry}
-use Rattle.world.proofs.laws.Boxes.{some-box}
 use Rattle.world.proofs.laws.Reached.{Reached, record-good, record-box}
 use Rattle.post.specs.Posting.{roomOf, startOf, bytesFrom, toBox}
 use Rattle.rehearsal.specs.Night as Nights

@@ -54,8 +54,10 @@ module _ {lent : List ℕ} {done : List Order} {w : World} (K : Keeps lent done 
   unfolding rehearsed pick
   keeps-plan true next f =
       let e = K .none (f refl) in
-      record
-      { stage = K .stage ∙ ap (afterwards (w .desk .plan) lent) e ∙ sym (ap (afterwards (next .plan) lent) (append-nil done ∙ e)); none = λ _. append-nil done ∙ e }
+      record {
+        stage = K .stage ∙ ap (afterwards (w .desk .plan) lent) e ∙ sym (ap (afterwards (next .plan) lent) (append-nil done ∙ e));
+        none = λ _. append-nil done ∙ e;
+      }
   keeps-plan false next f = keeps-nil (record { stage = K .stage; none = K .none })
 
   -- any line; an unreadable one changes nothing

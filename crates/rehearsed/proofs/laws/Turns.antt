@@ -1,6 +1,6 @@
 -- Laws of what specs/Turns.antt defines.
 use Prim.Native.Nat.{ℕ, _+_, _≤_, _<_}
-use mathlib.Core.Bool.{Bool, true, false}
+use mathlib.Core.Bool.{true}
 use mathlib.Core.List.{List, [], _++_, append-assoc}
 use mathlib.Core.Logic.{_⊎_, inl, inr, _≢_}
 use mathlib.Core.Path.{_≡_, refl, sym, ap, subst₃, _∙_}
@@ -9,9 +9,9 @@ use native.Mathlib.Omega.{arith}
 use lib.ListN.{length, take, drop, set, length-append, length-drop, length-set, take-append-drop}
 use lib.Seq.{length-take-le, take-at, take-set-lt}
 use lib.Dec.{leb, ltb, eqb}
-use borrow.Author.Tests.{le-leb, lt-leb, ltb-false, ne-eqb}
+use borrow.Author.Tests.{le-leb, lt-leb, ne-eqb}
 use Rattle.laws.specs.Choice.{pick}
-use Rattle.laws.proofs.laws.Choice.{pick-when, or-right}
+use Rattle.laws.proofs.laws.Choice.{or-right}
 use Rattle.laws.specs.Tray.{onto}
 use Rattle.laws.proofs.laws.Tray.{onto-nil, onto-length}
 use Rattle.house.specs.Limits.{mostPost}
@@ -19,7 +19,9 @@ use Rattle.house.specs.Plan.{boxesOf}
 use Rattle.house.specs.declared.Plan.{Plan}
 use Rattle.records.specs.Rec.{Rec}
 use Rattle.records.specs.Bytes.{encodeAll}
+use Rattle.records.proofs.laws.Bytes.{encode-append}
 use Rattle.boxes.specs.Out.{Out, refused, does, guard}
+use Rattle.boxes.proofs.laws.Answers.{guard-does}
 use Rattle.boxes.specs.declared.BoxState.{BoxState}
 use Rattle.boxes.specs.declared.Delivery.{Delivery}
 use Rattle.world.specs.World as Worlds
@@ -29,20 +31,15 @@ use Rattle.world.proofs.laws.Reached.{Reached, given-turned}
 use Rattle.world.proofs.laws.Answers.{answers, carry-answers}
 use Rattle.rehearsal.specs.Night as Nights
 use Rattle.post.specs.Posting.{roomOf}
+use Rattle.post.proofs.laws.Posting.{room-most}
 use Rattle.rehearsal.specs.Night.{fitting, turnOf, postOf}
 use Rattle.rehearsal.specs.declared.Night.{Night}
 use Rattle.rehearsal.specs.declared.Order.{Order}
 use Rattle.rehearsal.specs.declared.Order.the-variants.{Carry}
-use Rattle.rehearsed.proofs.laws.Walk.{all-append}
 use Rattle.rehearsed.proofs.laws.Same.{told, Same, whose-same, given-same}
 use Rattle.rehearsed.specs.Turns.{nightAfter, postAfter}
 
 -- ---- the post's bytes
-
-pub room-most : (s : List ℕ) → roomOf s ≤ length s
-unfolding roomOf
-room-most s =
-    pick-when (λ r. r ≤ length s) (ltb (length s) mostPost) (λ e. omega arith) (λ e. let h = ltb-false (length s) mostPost e in omega arith)
 
 -- the room goes by the length alone
 pub room-same : (s t : List ℕ) → length s ≡ length t → roomOf s ≡ roomOf t
@@ -73,11 +70,6 @@ written-front s bs u h =
     (length-append (take u s) bs ∙ ap (λ (k : ℕ). k + length bs) (length-take-le u s h))
 
 -- ---- an outcome behind tests
-
-guard-does : (t : Bool) (n : ℕ) (o : Out) {x : BoxState} {l : List Rec} {d : Delivery} → guard t n o ≡ does x l d → (t ≡ true) × (o ≡ does x l d)
-unfolding guard
-guard-does true n o e = (refl, e)
-guard-does false n o e = (cc, cc)
 
 -- what is done exists
 pub done-exists : (P : Plan) (w : World) (o : Worlds.Order) {x : BoxState} {l : List Rec} {d : Delivery} → Worlds.given P w o ≡ does x l d
@@ -125,10 +117,10 @@ module _ {P : Plan} {n : Night} {s : List ℕ} {w : World} (R : Reached P w) (S 
         twelve = length-set (n .boxes) p x ∙ S .twelve;
         used =
             ap (λ (q : ℕ). q + length (encodeAll P l)) (S .used)
-            ∙ sym (ap (length) (all-append P (w .post) l) ∙ length-append (encodeAll P (w .post)) (encodeAll P l));
+            ∙ sym (ap (length) (encode-append P (w .post) l) ∙ length-append (encodeAll P (w .post)) (encodeAll P l));
         bytes =
             written-front s (encodeAll P l) (n .used) (omega (arith, S .fits))
-            ∙ ap (λ (q : List ℕ). q ++ encodeAll P l) (S .bytes) ∙ sym (all-append P (w .post) l);
+            ∙ ap (λ (q : List ℕ). q ++ encodeAll P l) (S .bytes) ∙ sym (encode-append P (w .post) l);
         fits = rw (room-same (take (n .used) s ++ onto (encodeAll P l) (drop (n .used) s)) s z) f;
       }
 
@@ -228,7 +220,14 @@ module _ {P : Plan} {n : Night} {s : List ℕ} {w : World} (R : Reached P w) (S 
       go (refused k) e =
           let r = refused-same R S o e in
           both-refuse
-          (record { number = k; world-refuses = e; refuses = r; night = night-stays P n s o r; post = post-stays P n s o r; world = world-stays P w (told o) e })
+          (record {
+            number = k;
+            world-refuses = e;
+            refuses = r;
+            night = night-stays P n s o r;
+            post = post-stays P n s o r;
+            world = world-stays P w (told o) e;
+          })
       go (does x l d) e = fit x l d e (decLe (n .used + length (encodeAll P l)) (roomOf s))
 
   refused-number : {a b : ℕ} → _≡_ {A = Out} (refused a) (refused b) → a ≡ b

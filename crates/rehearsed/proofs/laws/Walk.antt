@@ -19,6 +19,7 @@ use Rattle.house.specs.declared.Plan.{Plan}
 use Rattle.records.specs.Rec.{Rec, unknown, carried, addresseeOf}
 use Rattle.records.specs.Bytes.{headBytes, encode, encodeAll, lengthOf}
 use Rattle.records.specs.declared.Record.{Record}
+use Rattle.records.proofs.laws.Bytes.{encode-append, encode-none}
 use Rattle.records.proofs.laws.Lengths.{encode-length}
 use Rattle.records.proofs.laws.Shapes.{ballots-inside}
 use Rattle.stays_sound.proofs.laws.Sends.{Sized, arrays}
@@ -26,24 +27,15 @@ use Rattle.post.specs.Posting.{lengthAt, nextStart, startOf, bytesFrom, toBox}
 
 -- ---- records one behind the other
 
-pub all-append : (P : Plan) (l k : List Rec) → encodeAll P (l ++ k) ≡ encodeAll P l ++ encodeAll P k
-unfolding encodeAll
-all-append P [] k = refl
-all-append P (r ∷ l) k = rw (all-append P l k) (sym (append-assoc (encode P (carried r)) (encodeAll P l) (encodeAll P k)))
-
 all-one : (P : Plan) (r : Rec) (l : List Rec) → encodeAll P (r ∷ l) ≡ encode P (carried r) ++ encodeAll P l
 unfolding encodeAll
 all-one P r l = refl
-
-all-none : (P : Plan) → encodeAll P [] ≡ []
-unfolding encodeAll
-all-none P = refl
 
 -- the records before place k, record k, the others
 all-split : (P : Plan) (l : List Rec) (k : ℕ) → k < length l
     → encodeAll P l ≡ encodeAll P (take k l) ++ (encode P (carried (getD l k unknown)) ++ encodeAll P (drop (suc k) l))
 all-split P l k h =
-    ap (encodeAll P) (split-at l k unknown h) ∙ all-append P (take k l) (getD l k unknown ∷ drop (suc k) l)
+    ap (encodeAll P) (split-at l k unknown h) ∙ encode-append P (take k l) (getD l k unknown ∷ drop (suc k) l)
     ∙ ap (λ (x : List ℕ). encodeAll P (take k l) ++ x) (all-one P (getD l k unknown) (drop (suc k) l))
 
 -- the bytes up to the end of record k
@@ -52,7 +44,7 @@ all-next : (P : Plan) (l : List Rec) (k : ℕ) → k < length l
 unfolding encodeAll
 all-next P l k h =
     ap (λ (x : List Rec). length (encodeAll P x)) (take-suc l k unknown h)
-    ∙ ap (length) (all-append P (take k l) (getD l k unknown ∷ []))
+    ∙ ap (length) (encode-append P (take k l) (getD l k unknown ∷ []))
     ∙ length-append (encodeAll P (take k l)) (encodeAll P (getD l k unknown ∷ []))
     ∙ ap (λ (x : ℕ). length (encodeAll P (take k l)) + x) (length-append (encode P (carried (getD l k unknown))) [] ∙ omega arith)
 
@@ -118,7 +110,7 @@ module _ (P : Plan) (l : List Rec) (rest : List ℕ) (sound : planSound P ≡ tr
   -- record k begins where those before it end
   pub begins : (k : ℕ) → k ≤ length l → startOf P bytes used k ≡ before k
   unfolding startOf nextStart
-  begins zero h = ap (length) (sym (all-none P))
+  begins zero h = ap (length) (sym (encode-none P))
   begins (suc k) h =
       let e = begins k (omega arith) in
       ap (nextStart P bytes used) e

@@ -1,7 +1,7 @@
 -- Laws of what specs/Sends.antt defines.
 use Prim.Native.Nat.{ℕ, zero, suc, _+_, _<_, _≤_}
 use mathlib.Core.Bool.{Bool, true, false}
-use mathlib.Core.List.{List, [], _∷_, _++_, append-assoc, append-nil}
+use mathlib.Core.List.{List, [], _∷_, _++_, append-nil}
 use mathlib.Core.Path.{_≡_, refl, sym, ap, _∙_}
 use native.Mathlib.Nat.{add-zero}
 use native.Mathlib.Omega.{arith}
@@ -21,23 +21,14 @@ use Rattle.house.proofs.laws.Says.{boxes-most}
 use Rattle.house.specs.declared.Plan.{Plan}
 use Rattle.records.specs.Rec.{Rec, carried}
 use Rattle.records.specs.Bytes.{encode, encodeAll}
+use Rattle.records.proofs.laws.Bytes.{encode-append, encode-none}
 use Rattle.records.specs.declared.Record.{Record}
 use Rattle.boxes.specs.Out.{toEach}
 use Rattle.sending.specs.Sends.{addressed, sentTo, sentBytes, meantBelow, sentCount, Sends}
 
--- records one behind the other
-pub encode-append : (P : Plan) (l k : List Rec) → encodeAll P (l ++ k) ≡ encodeAll P l ++ encodeAll P k
-unfolding encodeAll
-encode-append P [] k = refl
-encode-append P (r ∷ l) k = rw (encode-append P l k, append-assoc)
-
 pub encode-one : (P : Plan) (r : Rec) → encodeAll P (r ∷ []) ≡ encode P (carried r)
 unfolding encodeAll
 encode-one P r = append-nil (encode P (carried r))
-
-pub encode-none : (P : Plan) → encodeAll P [] ≡ []
-unfolding encodeAll
-encode-none P = refl
 
 meant-step : (m n : ℕ) → meantBelow m n + pick (hasMark m (boxNo n)) 1 0 ≡ meantBelow m (n + 1)
 unfolding meantBelow

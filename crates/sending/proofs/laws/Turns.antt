@@ -18,7 +18,7 @@ use Rattle.records.specs.Bytes.{encodeAll}
 use Rattle.boxes.specs.Box.{rowAt, putSent}
 use Rattle.boxes.specs.Ready.{Handing, nextReady, delivers, flagged, handNext, handTurns}
 use Rattle.boxes.specs.declared.BoxState.{BoxState}
-use Rattle.sending.proofs.laws.Sends.{encode-append}
+use Rattle.records.proofs.laws.Bytes.{encode-append}
 use Rattle.sending.specs.Turns.{deliversFrom}
 
 -- a turn with a ready job

@@ -46,8 +46,12 @@ module _ {desk : Desk} {used : ℕ} {x : BoxState} {post : List ℕ} {o : Order}
       record {
         most = H .most;
         does = λ n at S.
-            let D = H .done f n at S in
-            (D .0, D .1 ∙ ap (λ (u : ℕ). record { desk = h .desk; night = record { boxes = n .boxes; used = u }; post = post; text = D .0 }) (S .used-is), D .2, D .3);
+            let D = H .done f n at S in (
+              D .0,
+              D .1 ∙ ap (λ (u : ℕ). record { desk = h .desk; night = record { boxes = n .boxes; used = u }; post = post; text = D .0 }) (S .used-is),
+              D .2,
+              D .3,
+            );
         known = H .known;
         stays = λ e. never e refl;
         fixed = H .fixed;
@@ -63,7 +67,8 @@ module _ {desk : Desk} {used : ℕ} {x : BoxState} {post : List ℕ} {o : Order}
 
     -- its box has stepped
     module _ (tray : List ℕ) {out : Outcome} {written : List ℕ}
-        (O : (out ≡ resultOf (desk .plan) x (stepOf (desk .plan) x a (h .rec))) × (written ≡ onto (encodeAll (desk .plan) (recordsOf (stepOf (desk .plan) x a (h .rec)))) tray))
+        (O : (out ≡ resultOf (desk .plan) x (stepOf (desk .plan) x a (h .rec)))
+        × (written ≡ onto (encodeAll (desk .plan) (recordsOf (stepOf (desk .plan) x a (h .rec)))) tray))
         (long : length written ≡ length tray) where
       abbrev done : Out
       done = stepOf (desk .plan) x (askOf o) (h .rec)

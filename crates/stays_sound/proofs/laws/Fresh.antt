@@ -62,7 +62,13 @@ fresh-sound P own s h =
       own = h;
       clock = omega arith;
       ballots =
-          record { at-most = ballotOrder .irrefl noBallot; equal = λ e. refl; ballot-home = rw no-ballot-is; cballot-home = rw no-ballot-is; leader = λ e. never e refl };
+          record {
+            at-most = ballotOrder .irrefl noBallot;
+            equal = λ e. refl;
+            ballot-home = rw no-ballot-is;
+            cballot-home = rw no-ballot-is;
+            leader = λ e. never e refl;
+          };
       table = no-rows-ok P (homeOf P own) noRows no-rows;
       sent = record { behind = λ j n l. getD-replicate mostJobs j false false l };
       kept = none-kept P;

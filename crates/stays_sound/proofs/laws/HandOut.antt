@@ -69,7 +69,12 @@ delivers-good {P} {x} j F b l r =
     (λ to h k.
     let e = same-home-says P to (x .core .own) k in
     good-deliver (S .plan) j (handoutOf x j)
-    (record { near = record { sender = S .own; addressee = h; home = sym e }; job = named-job P j (homeOf P (x .core .own)) (d .0); own-ballot = b; stamps = d .1 })
+    (record {
+      near = record { sender = S .own; addressee = h; home = sym e };
+      job = named-job P j (homeOf P (x .core .own)) (d .0);
+      own-ballot = b;
+      stamps = d .1;
+    })
     (rw e (d .0)))
 
 delivers-few : (P : Plan) (x : BoxState) (j : ℕ) → length (delivers P x j) ≤ sizeOf P

@@ -163,7 +163,8 @@ module _ {P : Plan} {x : BoxState} (F : Fine P x) where
       record {
         place = λ d h.
             rw (vector-at j d h)
-            (pick-when (BallotFor P j d) (names P j (district d)) (λ n. for-named n (kept-holds (F .sound) j (district d) k n .ballot)) (λ n. for-other n refl));
+            (pick-when (BallotFor P j d) (names P j (district d))
+            (λ n. for-named n (kept-holds (F .sound) j (district d) k n .ballot)) (λ n. for-other n refl));
       }
 
   vector-size : (j : ℕ) → length (keptVector P x j) ≡ mostDistricts

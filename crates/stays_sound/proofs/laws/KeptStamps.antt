@@ -64,7 +64,8 @@ module _ {P : Plan} {x : BoxState} (S : SoundBox P x) where
       never (rw e no-ballot-is)
       (not-true (isNoBallot (keptBallot x j d))
       (or-other (not (names P j d)) (not (isNoBallot (keptBallot x j d)))
-      (all-says (λ e. not (names P j (district e)) || not (isNoBallot (keptBallot x j (district e)))) (P .districts) h (d .0) (names-district P j d (S .plan) n))
+      (all-says (λ e. not (names P j (district e)) || not (isNoBallot (keptBallot x j (district e)))) (P .districts) h (d .0)
+      (names-district P j d (S .plan) n))
       (not-of n))))
 
   -- ---- the largest

@@ -7,13 +7,12 @@ use mathlib.Core.Path.{_≡_, refl, sym, ap, subst, _∙_}
 use native.Mathlib.Omega.{arith}
 use lib.ListN.{length, replicate, getD-replicate}
 use lib.Dec.{leb, eqb}
-use borrow.Author.Tests.{eqb-false, eq-eqb, leb-true, le-leb, not-true}
+use borrow.Author.Tests.{eqb-false, eq-eqb, le-leb, not-true}
 use Rattle.laws.proofs.laws.Choice.{pick-both, never, or-right, both, and-both}
 use Rattle.laws.proofs.laws.Lex.{lt-asym, le-lt}
 use Rattle.house.specs.Limits.{mostJobs, mostTime}
 use Rattle.house.specs.Pairs.{ballotLt, sameBallot, isNoBallot, timeFits, ballotOf}
 use Rattle.house.proofs.laws.Orders.{ballotOrder, ballot-of-says}
-use Rattle.house.specs.declared.Stamp.{Stamp}
 use Rattle.house.specs.declared.Ballot.{Ballot}
 use Rattle.house.specs.declared.BoxNo.{BoxNo}
 use Rattle.house.specs.declared.District.{District}
@@ -36,7 +35,7 @@ use Rattle.boxes.specs.declared.BoxState.{BoxState}
 use Rattle.boxes.proofs.laws.Answers.{under-or}
 use Rattle.boxes.specs.declared.Vote.{Vote}
 use Rattle.boxes.specs.declared.Status.the-variants.{Follower, Leader, Recovering}
-use Rattle.records.proofs.laws.Rows.{Unproposed}
+use Rattle.records.proofs.laws.Rows.{Unproposed, clock-says}
 use Rattle.records.proofs.laws.Obeys.{Neighbours, NewleaderOk, NewleaderAckOk, NewStateOk, NewstateAckOk}
 use Rattle.boxes.proofs.laws.Sound.{PaperOk, is-held}
 use Rattle.stays_sound.proofs.laws.Fresh.{no-vote-ok}
@@ -74,10 +73,6 @@ clock-ok {P} {x} F =
     (le-leb (x .core .clock) mostTime (F .sound .clock))
     (eq-eqb (homeOf P (x .core .own) .0) (homeOf P (x .core .own) .0) refl)
 
-clock-low : (d : District) (s : Stamp) → clockOf d s ≡ true → s .time ≤ mostTime
-unfolding clockOf timeFits
-clock-low d s h = leb-true (s .time) mostTime (both h .0)
-
 -- a table has at most 64 rows
 rows-short : (P : Plan) → planSound P ≡ true → 19 + P .jobs * 11 ≤ 723
 rows-short P s = let m = plan-says P s .jobs-most in omega arith
@@ -111,7 +106,14 @@ module _ {P : Plan} {x : BoxState} (F : Fine P x) where
       go h =
           let S = F .sound in
           let g = good-one (good-newleader-ack (S .plan) paper
-          (record { near = back (O .near); its-ballot = O .own-ballot; lower = above-cballot b h; cballot-home = S .ballots .cballot-home; clock = clock-ok F; table = S .table })
+          (record {
+            near = back (O .near);
+            its-ballot = O .own-ballot;
+            lower = above-cballot b h;
+            cballot-home = S .ballots .cballot-home;
+            clock = clock-ok F;
+            table = S .table;
+          })
           (F .lengths .table)) in
           record {
             fine = joined-fine b h (rw (O .near .home) at (own-home P from b (O .near .sender) (O .own-ballot)));
@@ -168,7 +170,7 @@ module _ {P : Plan} {x : BoxState} (F : Fine P x) where
         own-ballot = rw e at (O .its-ballot);
         lower = rw e at (O .lower);
         cballot-home = rw (O .near .home) at (O .cballot-home);
-        clock = clock-low (homeOf P from) (y .clock) (O .clock);
+        clock = clock-says (homeOf P from) (y .clock) (O .clock);
         table = rw (O .near .home) at (O .table);
       }
 
@@ -229,7 +231,7 @@ module _ {P : Plan} {x : BoxState} (F : Fine P x) where
       let S = F .sound in
       let h = O .other .near .home in
       put-mode
-      (put-table F (y .clock .time) (y .table) (clock-low (homeOf P from) (y .clock) (O .clock)) n (rw h at (O .table)))
+      (put-table F (y .clock .time) (y .table) (clock-says (homeOf P from) (y .clock) (O .clock)) n (rw h at (O .table)))
       Follower
       (x .core .ballot)
       (y .ballot)
@@ -271,7 +273,13 @@ module _ {P : Plan} {x : BoxState} (F : Fine P x) where
           let f = ballotOrder .eq-says b (x .core .cballot) (k .1) in
           let o : ballotOf (x .core .own) (x .core .cballot) ≡ true = rw f at (O .its-ballot) in
           let G = put-mode F Leader (x .core .ballot) (x .core .cballot)
-          (record { at-most = S .ballots .at-most; equal = λ q. sym f ∙ e; ballot-home = S .ballots .ballot-home; cballot-home = S .ballots .cballot-home; leader = λ q. o })
+          (record {
+            at-most = S .ballots .at-most;
+            equal = λ q. sym f ∙ e;
+            ballot-home = S .ballots .ballot-home;
+            cballot-home = S .ballots .cballot-home;
+            leader = λ q. o;
+          })
           (S .vote)
           in
           keeps-on refl (hand-out-keeps G o)

@@ -79,7 +79,8 @@ list-add {P} {d} {n} {l} {j} {s} S len L A =
           λ i h. at-each (λ (e : Listed). stampNamed P (e .job) (e .stamp) ≡ true) l n i new noListed fits (λ e. A .stamped) (λ q. L .stamped i (omega arith));
       rising = λ i h.
           rw (other i (omega arith))
-          (at-each (λ (e : Listed). stampLt (entryAt l i .stamp) (e .stamp) ≡ true) l n (suc i) new noListed fits (λ e. A .above i e) (λ q. L .rising i (omega arith)));
+          (at-each (λ (e : Listed). stampLt (entryAt l i .stamp) (e .stamp) ≡ true) l n (suc i) new noListed fits (λ e. A .above i e)
+          (λ q. L .rising i (omega arith)));
       once = λ i k lt h.
           rw (other k (omega arith))
           (at-each (λ (e : Listed). entryAt l k .job ≢ e .job) l n i new noListed fits (λ e. A .new k (omega arith)) (λ q. L .once i k lt (omega arith)));

@@ -136,5 +136,8 @@ module _ {P : Plan} {own : BoxNo} {b : Ballot} where
             table = table-set (M .table) j (mergedRow l j) (omega arith) (R .ok);
             size = length-set t j (mergedRow l j) ∙ n;
             unproposed =
-                record { row = λ k g. at-each (λ (q : Row). q .phase ≢ 1) t j k (mergedRow l j) noRow (omega arith) (λ e. R .unproposed) (λ e. M .unproposed .row k g) };
+                record {
+                  row = λ k g.
+                      at-each (λ (q : Row). q .phase ≢ 1) t j k (mergedRow l j) noRow (omega arith) (λ e. R .unproposed) (λ e. M .unproposed .row k g);
+                };
           }

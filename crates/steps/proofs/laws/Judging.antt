@@ -3,7 +3,6 @@ use Prim.Native.Nat.{ℕ, _≤_}
 use mathlib.Core.Bool.{Bool, true, false}
 use mathlib.Core.List.{List}
 use mathlib.Core.Path.{_≡_, refl, sym, ap, _∙_}
-use native.Mathlib.Omega.{arith}
 use lib.Dec.{eqb}
 use borrow.Author.Tests.{le-leb}
 use Rattle.house.specs.Limits.{leastTray}
@@ -17,6 +16,7 @@ use Rattle.records.specs.Rules.{valid}
 use Rattle.records.specs.declared.Answer.{Answer}
 use Rattle.records.specs.declared.Answer.the-variants.{Done, No}
 use Rattle.records.specs.declared.Record.{Record}
+use Rattle.records.proofs.laws.Answers.{no-done, no-is}
 use Rattle.records.proofs.laws.Lengths.{parse-arrays}
 use Rattle.boxes.specs.Box.{ownOf}
 use Rattle.boxes.specs.Sound.{sound}
@@ -53,12 +53,6 @@ pub receives-every : (P : Plan) (x : BoxState) (room : ℕ) (s : List ℕ) → L
 unfolding receives
 receives-every P x room s L =
     every-guard _ _ _ (λ h. every-guard _ _ _ (λ t. every-guard _ _ _ (λ v. takes-every P x room (parse P s) L (parse-sized P s (sound-plan P x h)))))
-
-no-done : {n : ℕ} {A : Type 0} → _≡_ {A = Answer} (No n) Done → A
-no-done e = let z : _≡_ {A = ℕ} 0 1 = cc in absurd (omega arith)
-
-no-is : {n m : ℕ} → _≡_ {A = Answer} (No n) (No m) → n ≡ m
-no-is e = cc
 
 five-no : (t : Bool) (o : Out) (j : Answer) (n : ℕ) → ((m : ℕ) → j ≡ No m → o ≡ refused m) → orNo t otherBox j ≡ No n → guard t otherBox o ≡ refused n
 unfolding guard

@@ -16,6 +16,7 @@ use Rattle.house.specs.Limits.{leastTray}
 use Rattle.house.specs.Pairs.{boxNo}
 use Rattle.house.specs.declared.BoxNo.{BoxNo}
 use Rattle.house.specs.Plan.{boxesOf, isJob, planSound}
+use Rattle.house.proofs.laws.Says.{some-box}
 use Rattle.house.specs.declared.Plan.{Plan}
 use Rattle.records.specs.Rec.{Rec, unknown, carried, senderOf, addresseeOf}
 use Rattle.records.specs.Bytes.{encodeAll}
@@ -30,7 +31,8 @@ use Rattle.stays_sound.proofs.laws.Sends.{Every, no-step, a-step, every-guard, 
 use Rattle.stays_sound.proofs.laws.Goods.{Keeps}
 use Rattle.stays_sound.proofs.laws.Steps.{takes-every, retried-every, stood-every, cut-off-every, posts-good, posts-fit, keeps-sound, keeps-lengths, keeps-good}
 use Rattle.stays_sound.proofs.laws.Steps.{keeps-fits}
-use Rattle.world.proofs.laws.Boxes.{fresh-length, fresh-at, some-box, good-box}
+use Rattle.world.proofs.laws.Fresh.{fresh-length, fresh-at}
+use Rattle.world.proofs.laws.Boxes.{good-box}
 
 -- box p as it is in every reached world: its own number, sound, its arrays
 pub record BoxOk (P : Plan) (p : ℕ) (x : BoxState) : Type 0 where

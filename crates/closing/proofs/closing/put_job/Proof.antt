@@ -38,7 +38,8 @@ returns c =
     let a = at-4 .before .before .before .before .args in
     let q = c .before .before .job-line in
     let f = at-4 .finished-below in
-    let v : (night : Night) → Ended night (a .job) (boxesOf (a .plan)) (a .end) → text (a .job) (a .end .first) (f .result) ≡ jobReport (a .plan) night (a .job) =
+    let v : (night : Night) → Ended night (a .job) (boxesOf (a .plan)) (a .end)
+    → text (a .job) (a .end .first) (f .result) ≡ jobReport (a .plan) night (a .job) =
     λ night d. line-is (a .plan) night (a .job) (a .end) (f .result) d (f .ensures night (d .holders-are)) in
     (q .ensures .0, λ night d. (q .ensures .1 ∙ ap length (v night d), q .ensures .2 ∙ ap (λ (l : List ℕ). onto l (a .t .now)) (v night d)))
 

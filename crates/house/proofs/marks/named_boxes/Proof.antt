@@ -33,7 +33,8 @@ loop-again c =
       l .inv .1,
       l .inv .2,
       c .mark-if .ensures
-          ∙ rw (l .inv .3, c .before .named .ensures, c .before .before .home-of .ensures) (marks-more (λ q. names (a .plan) (a .job) (homeOf (a .plan) q)) (l .p)),
+          ∙ rw (l .inv .3, c .before .named .ensures, c .before .before .home-of .ensures)
+          (marks-more (λ q. names (a .plan) (a .job) (homeOf (a .plan) q)) (l .p)),
     )
 
 returns : tie.Need-returns Inv-loop μ-loop

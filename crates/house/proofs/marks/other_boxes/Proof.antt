@@ -35,7 +35,8 @@ loop-again c =
       l .inv .1,
       l .inv .2,
       c .mark-if .ensures
-          ∙ rw (l .inv .3, c .before .before .before .same-home .ensures) (marks-more (λ q. sameHome (a .plan) q (a .own) && not (eqb (q .0) (a .own .0))) (l .p)),
+          ∙ rw (l .inv .3, c .before .before .before .same-home .ensures)
+          (marks-more (λ q. sameHome (a .plan) q (a .own) && not (eqb (q .0) (a .own .0))) (l .p)),
     )
 
 returns : tie.Need-returns Inv-loop μ-loop

@@ -34,7 +34,10 @@ loop-again c =
           ∙
           rw
           (l .inv .1)
-          (upto-step (λ (s : Stamp) (e : ℕ). pick (names (a .plan) (a .job) (district e)) (laterStamp s (keptStamp (a .x) (a .job) (district e))) s) noStamp (l .d)),
+          (upto-step
+          (λ (s : Stamp) (e : ℕ). pick (names (a .plan) (a .job) (district e)) (laterStamp s (keptStamp (a .x) (a .job) (district e))) s)
+          noStamp
+          (l .d)),
     )
 
 returns : tie.Need-returns Inv-loop μ-loop

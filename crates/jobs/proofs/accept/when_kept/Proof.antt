@@ -2,7 +2,7 @@
 use mathlib.Core.List.{[]}
 use Rattle.jobs.proofs.laws.Steps.{sent-acks}
 use Rattle.sending.specs.Sends.{Sends}
-use Rattle.sending.proofs.laws.Sends.{encode-none}
+use Rattle.records.proofs.laws.Bytes.{encode-none}
 use Rattle.boxes.specs.declared.Delivery.the-variants.{Nothing}
 use Rattle.boxes.specs.Accept.{accepted, acks, whenKept}
 use Rattle.boxes.specs.Out.{does}

@@ -36,7 +36,9 @@ loop-again c =
     let l = at-5 .loop in (
       omega arith,
       rw (l .inv .1, same-ballot-says, named-says, kept-ballot-says, ballot-at-says)
-          (all-step (λ (e : ℕ). not (names (a .plan) (a .job) (district e)) || sameBallot (getD (a .ballots) e noBallot) (keptBallot (a .x) (a .job) (district e))) (l .d)),
+          (all-step
+          (λ (e : ℕ). not (names (a .plan) (a .job) (district e)) || sameBallot (getD (a .ballots) e noBallot) (keptBallot (a .x) (a .job) (district e)))
+          (l .d)),
     )
 
 returns : tie.Need-returns Inv-loop μ-loop

@@ -1,5 +1,5 @@
 -- `jobs::accept_ack::when_marked` meets its contract.
-use Rattle.sending.proofs.laws.Sends.{encode-none}
+use Rattle.records.proofs.laws.Bytes.{encode-none}
 use Rattle.boxes.specs.declared.Delivery.the-variants.{Nothing}
 use Rattle.boxes.specs.AcceptAck.{committed, whenMarked}
 use Rattle.boxes.specs.Ready.{handing, handOut}

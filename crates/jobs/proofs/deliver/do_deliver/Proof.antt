@@ -1,5 +1,5 @@
 -- `jobs::deliver::do_deliver` meets its contract.
-use Rattle.sending.proofs.laws.Sends.{encode-none}
+use Rattle.records.proofs.laws.Bytes.{encode-none}
 use Rattle.boxes.proofs.laws.Answers.{deliver-is}
 use mathlib.Core.Path.{_∙_}
 use borrow.Author.Needs.{needs}

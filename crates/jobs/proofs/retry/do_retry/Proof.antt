@@ -14,7 +14,8 @@ sent : (c : tie.After-named-boxes) → let a = c .before .before .before .before
     Sends (a .plan) (retries (a .plan) (a .x) (a .job)) (c .named-boxes .result) (c .before .multicast-record .result)
 sent c =
     let a = c .before .before .before .before .before .args in
-    rw (c .named-boxes .ensures, c .before .multicast-record .ensures) (sent-retries (a .plan) (c .before .before .before .before .before .pre .0) (a .job) (a .x))
+    rw (c .named-boxes .ensures, c .before .multicast-record .ensures)
+    (sent-retries (a .plan) (c .before .before .before .before .before .pre .0) (a .job) (a .x))
 
 done-sending-requires : tie.Need-done-sending-requires
 done-sending-requires c κs = let p = c .before .before .before .before .before .before .pre in (p .0, (_, sent (c .before), p .1))

@@ -5,7 +5,7 @@ use Rattle.boxes.specs.NewleaderAck.{newStates, whenVoted}
 use Rattle.boxes.specs.Out.{does}
 use Rattle.boxes.specs.declared.Delivery.the-variants.{Nothing}
 use Rattle.sending.specs.Sends.{Sends}
-use Rattle.sending.proofs.laws.Sends.{encode-none}
+use Rattle.records.proofs.laws.Bytes.{encode-none}
 use Rattle.house.proofs.laws.Says.{plan-says}
 use Rattle.laws.proofs.laws.Tray.{onto-nil}
 use Rattle.laws.proofs.laws.Choice.{pick-true, pick-false}

@@ -1,5 +1,5 @@
 -- `rehearsal::settling::cut_only` meets its contract.
-use Rattle.sending.proofs.laws.Sends.{encode-none}
+use Rattle.records.proofs.laws.Bytes.{encode-none}
 use mathlib.Core.Path.{_∙_}
 use borrow.Author.Needs.{needs}
 use Rattle.rehearsal.proofs.settling.cut_only.Statement.{statement}

@@ -1,6 +1,6 @@
 -- `rehearsal::settling::step` meets its contract.
 use Rattle.laws.proofs.laws.Tray.{onto-nil}
-use Rattle.sending.proofs.laws.Sends.{encode-none}
+use Rattle.records.proofs.laws.Bytes.{encode-none}
 use native.Mathlib.Omega.{arith}
 use mathlib.Core.Path.{sym}
 use borrow.Author.Needs.{needs}

@@ -1,5 +1,6 @@
 -- `rules::kinds::obeys` meets its contract.
-use Rattle.records.proofs.laws.Kinds.{says-multicast, says-accept, says-accept-ack, says-deliver, says-newleader, says-newleader-ack, says-new-state, says-newstate-ack, says-nothing}
+use Rattle.records.proofs.laws.Kinds.{says-multicast, says-accept, says-accept-ack, says-deliver}
+use Rattle.records.proofs.laws.Kinds.{says-newleader, says-newleader-ack, says-new-state, says-newstate-ack, says-nothing}
 use Rattle.records.specs.Rules.{rules}
 use mathlib.Core.Path.{sym, ap}
 use borrow.Author.Needs.{needs}

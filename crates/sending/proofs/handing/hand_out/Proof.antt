@@ -15,7 +15,7 @@ use Rattle.records.specs.Rec.{Rec}
 use Rattle.boxes.specs.Box.{putSent}
 use Rattle.boxes.specs.Ready.{nextReady, handTurns, handOut}
 use Rattle.boxes.specs.declared.Volatile.{Volatile}
-use Rattle.sending.proofs.laws.Sends.{encode-none}
+use Rattle.records.proofs.laws.Bytes.{encode-none}
 use Rattle.sending.specs.Turns.{boxOf, deliversFrom}
 use Rattle.sending.proofs.laws.Turns.{turn-none, turns-stay, Turn, turn}
 use borrow.Author.Needs.{needs}

@@ -79,7 +79,11 @@ loop-holds c =
       said = refl;
       printed = sym (onto-nil (a .t .now));
       sure =
-          record { indexed = indexed-none (a .s .desk .plan) (a .post .now) (a .s .night .used) _ (omega arith) refl; loose = λ h. refl; box = λ i h. never h (none-known mostBoxes i) };
+          record {
+            indexed = indexed-none (a .s .desk .plan) (a .post .now) (a .s .night .used) _ (omega arith) refl;
+            loose = λ h. refl;
+            box = λ i h. never h (none-known mostBoxes i);
+          };
     }
 
 slice-aggregate-ask : tie.Need-slice-aggregate-ask Inv-loop μ-loop

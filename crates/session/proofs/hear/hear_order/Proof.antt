@@ -22,8 +22,11 @@ returns c =
     let j = at-9 .judge in let l = c .before .before .answer-line in let f = at-7 .fix in
     record {
       refuse =
-          λ q.
-          (_, j .ensures .refuse _ (at-5 .answer .given .1), record { desk-is = f .ensures; long = l .ensures .1; most = l .ensures .0; text-is = l .ensures .2 });
+          λ q. (
+            _,
+            j .ensures .refuse _ (at-5 .answer .given .1),
+            record { desk-is = f .ensures; long = l .ensures .1; most = l .ensures .0; text-is = l .ensures .2 },
+          );
       go = λ q. never q refl;
       fixed = f .ensures;
       most = l .ensures .0;

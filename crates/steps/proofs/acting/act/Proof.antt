@@ -2,7 +2,7 @@
 use Rattle.steps.proofs.laws.Kinds.{react-1, react-2, react-3, react-4, react-5, react-6, react-7, react-8, above-four, last-kind}
 use Rattle.steps.proofs.laws.Judged.{judged-1, judged-2, judged-3, judged-4, judged-5, judged-6, judged-7, judged-8}
 use Rattle.steps.proofs.laws.Acting.{box, told, least, most, job-low, home-place, room-listed}
-use Rattle.sending.proofs.laws.Sends.{encode-none}
+use Rattle.records.proofs.laws.Bytes.{encode-none}
 use Rattle.boxes.proofs.laws.Answers.{deliver-is}
 use Rattle.records.specs.Rec.{ballotNo, stampNo}
 use Rattle.records.specs.declared.Handout.{Handout}
