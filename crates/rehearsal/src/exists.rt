@@ -4,14 +4,14 @@ ghost use mathlib.Core.Path.{_≡_};
 ghost use mathlib.Core.Bool.{true, false};
 ghost use Prim.Native.Nat.{ℕ, _<_};
 ghost use Rattle.house.specs.Plan.{planSound};
+ghost use Rattle.house.specs.declared.Order.the-variants.{Carry};
 ghost use Rattle.boxes.specs.Sound.{sound};
 ghost use Rattle.boxes.specs.Lengths.{Lengths};
 ghost use Rattle.post.specs.Index.{Indexed};
 ghost use Rattle.rehearsal.specs.Night.{mostBoxes};
 ghost use Rattle.rehearsal.specs.Alone.{Found};
-ghost use Rattle.rehearsal.specs.declared.Order.the-variants.{Carry};
-use crate::Order;
 use boxes::BoxState;
+use house::Order;
 use house::Plan;
 
 // which box an order is for, the first if there is none such; where the record begins that it carries; how far the index goes

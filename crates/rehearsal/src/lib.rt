@@ -22,12 +22,3 @@ pub struct Night {
     pub boxes: [BoxState; MOST_BOXES],
     pub used: usize,
 }
-
-// an order with the numbers that were typed
-pub enum Order {
-    Post(u32),
-    Stand(u32),
-    Retry(u32, u32),
-    Cut(u32),
-    Carry(u32),
-}

@@ -22,9 +22,10 @@ use Rattle.house.specs.Plan.{boxesOf, homeOf, planSound}
 use Rattle.house.specs.declared.Plan.{Plan}
 use Rattle.house.specs.Marks.{noMarks, hasMark}
 use Rattle.house.proofs.laws.Quorums.{no-mark}
+use Rattle.house.specs.declared.Order.{Order}
 use Rattle.boxes.specs.Box.{isLeader, isRecovering, fresh, freshVolatile, keptAt, keptBallot, marksAt, sentAt, noListed}
 use Rattle.boxes.specs.declared.BoxState.{BoxState}
-use Rattle.world.specs.World.{World, Order, new, freshBoxes, step, run}
+use Rattle.world.specs.World.{World, new, freshBoxes, step, run}
 use Rattle.in_order.proofs.laws.Compare.{le-refl}
 use Rattle.in_order.proofs.laws.Laws.{one-value}
 use Rattle.in_order.proofs.laws.Notions.{the, rowIn, Lam, stated, asked}

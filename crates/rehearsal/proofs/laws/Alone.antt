@@ -13,6 +13,8 @@ use Rattle.house.specs.Pairs.{boxNo}
 use Rattle.house.specs.Plan.{boxesOf, isJob, planSound}
 use Rattle.house.proofs.laws.Says.{boxes-most}
 use Rattle.house.specs.declared.Plan.{Plan}
+use Rattle.house.specs.declared.Order.{Order}
+use Rattle.house.specs.declared.Order.the-variants.{Post, Stand, Retry, Cut, Carry}
 use Rattle.records.specs.Answers.{notSound, noSuch}
 use Rattle.post.specs.Posting.{startOf, toBox}
 use Rattle.post.specs.Index.{Indexed}
@@ -21,9 +23,7 @@ use Rattle.boxes.specs.Out.{Out, does, guard}
 use Rattle.boxes.specs.declared.BoxState.{BoxState}
 use Rattle.rehearsal.specs.Night.{mostBoxes, boxIn, whose, exists, acts, fitting, ifFits, given}
 use Rattle.rehearsal.specs.declared.Night.{Night}
-use Rattle.rehearsal.specs.declared.Order.{Order}
 use Rattle.rehearsal.specs.declared.exists.Place.{Place}
-use Rattle.rehearsal.specs.declared.Order.the-variants.{Post, Stand, Retry, Cut, Carry}
 use Rattle.rehearsal.specs.Alone.{Stands, here, actsOn, alone, Starts, Found}
 
 -- a box of a night, whichever default

@@ -2,7 +2,6 @@
 use Rattle.rehearsal.proofs.laws.Steps.{judges-no, none-such, acts-no, carry-unsound, carry-judges, carry-exists, carry-bytes, part-up}
 use Rattle.rehearsal.specs.Alone.{here}
 use Rattle.rehearsal.specs.Night.{exists}
-use Rattle.rehearsal.specs.declared.Order.the-variants.{Carry}
 use Rattle.steps.specs.Judging.{Judging}
 use Rattle.records.specs.Answers.{notSound}
 use Prim.Native.Nat.{ℕ, _≤_}
@@ -11,6 +10,7 @@ use mathlib.Core.Bool.{true}
 use mathlib.Core.List.{List}
 use mathlib.Core.Path.{_≡_, sym, subst, _∙_}
 use borrow.Author.Needs.{needs}
+use Rattle.house.specs.declared.Order.the-variants.{Carry}
 use Rattle.rehearsal.proofs.judging.judge_carry.Statement.{statement}
 use Rattle.rehearsal.proofs.judging.judge_carry.Tie as tie
 

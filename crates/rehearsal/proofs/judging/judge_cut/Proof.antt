@@ -2,13 +2,13 @@
 use Rattle.rehearsal.proofs.laws.Steps.{judges-no, judges-go, none-such, box-there, box-missing, acts-no, goes-kept, cut-unsound, cut-acts, cut-keeps}
 use Rattle.rehearsal.specs.Alone.{here}
 use Rattle.rehearsal.specs.Night.{exists}
-use Rattle.rehearsal.specs.declared.Order.the-variants.{Cut}
 use Rattle.records.specs.Answers.{notSound}
 use Prim.Native.Nat.{ℕ}
 use mathlib.Core.Bool.{true}
 use mathlib.Core.List.{List}
 use mathlib.Core.Path.{_≡_, refl, sym, _∙_}
 use borrow.Author.Needs.{needs}
+use Rattle.house.specs.declared.Order.the-variants.{Cut}
 use Rattle.rehearsal.proofs.judging.judge_cut.Statement.{statement}
 use Rattle.rehearsal.proofs.judging.judge_cut.Tie as tie
 

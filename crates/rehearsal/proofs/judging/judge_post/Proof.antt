@@ -2,8 +2,8 @@
 use Rattle.rehearsal.proofs.laws.Steps.{judges-no, judges-go, none-such, goes-post}
 use Rattle.steps.proofs.laws.Orders.{posts-sent}
 use Rattle.rehearsal.specs.Night.{exists}
-use Rattle.rehearsal.specs.declared.Order.the-variants.{Post}
 use Rattle.house.specs.Plan.{officeOf, isJob}
+use Rattle.house.specs.declared.Order.the-variants.{Post}
 use Rattle.records.specs.Rec.{multicast, carried}
 use borrow.Author.Tests.{lt-ltb, le-ltb}
 use mathlib.Core.Path.{_≡_, _∙_}

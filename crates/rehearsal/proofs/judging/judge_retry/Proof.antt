@@ -2,12 +2,12 @@
 use Rattle.rehearsal.proofs.laws.Steps.{judges-no, judges-go, none-such, acts-no, goes-kept, retry-unsound, retry-acts, retry-keeps}
 use Rattle.rehearsal.specs.Alone.{here}
 use Rattle.rehearsal.specs.Night.{exists}
-use Rattle.rehearsal.specs.declared.Order.the-variants.{Retry}
 use Rattle.boxes.proofs.laws.Answers.{retry-is}
 use Rattle.steps.proofs.laws.Orders.{retries-sent}
 use Rattle.records.specs.Answers.{notSound}
 use Rattle.house.specs.Plan.{isJob}
 use Rattle.house.proofs.laws.Says.{plan-says}
+use Rattle.house.specs.declared.Order.the-variants.{Retry}
 use Rattle.laws.proofs.laws.Choice.{and-right}
 use borrow.Author.Tests.{ltb-true}
 use native.Mathlib.Omega.{arith}

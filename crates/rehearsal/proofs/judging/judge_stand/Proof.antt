@@ -2,7 +2,6 @@
 use Rattle.rehearsal.proofs.laws.Steps.{judges-no, judges-go, none-such, box-there, box-missing, acts-no, goes-kept, stand-unsound, stand-acts, stand-keeps}
 use Rattle.rehearsal.specs.Alone.{here}
 use Rattle.rehearsal.specs.Night.{exists}
-use Rattle.rehearsal.specs.declared.Order.the-variants.{Stand}
 use Rattle.boxes.proofs.laws.Answers.{stand-is}
 use Rattle.steps.proofs.laws.Orders.{standing-sent}
 use Rattle.leaders.proofs.laws.Room.{stand-room}
@@ -12,6 +11,7 @@ use mathlib.Core.Bool.{true}
 use mathlib.Core.List.{List}
 use mathlib.Core.Path.{_≡_, refl, sym, _∙_}
 use borrow.Author.Needs.{needs}
+use Rattle.house.specs.declared.Order.the-variants.{Stand}
 use Rattle.rehearsal.proofs.judging.judge_stand.Statement.{statement}
 use Rattle.rehearsal.proofs.judging.judge_stand.Tie as tie
 
