@@ -3,10 +3,10 @@ use Prim.Native.Nat.{ℕ, _+_, _*_}
 use mathlib.Core.List.{List, [], _++_}
 use Rattle.laws.specs.Choice.{pick}
 use Rattle.laws.specs.Tray.{allFor}
-use Rattle.house.specs.Limits.{mostJobs}
+use Rattle.house.specs.Limits.{mostBoxes, mostJobs}
 use Rattle.house.specs.Plan.{boxesOf, planSound}
 use Rattle.house.specs.declared.Plan.{Plan}
-use Rattle.rehearsal.specs.Night.{mostBoxes, boxIn}
+use Rattle.rehearsal.specs.Night.{boxIn}
 use Rattle.rehearsal.specs.declared.Night.{Night}
 use Rattle.report.specs.Report.{boxText, jobText, boxMost, jobMost}
 use Rattle.closing.specs.Endings.{jobsOf, shownOf, firstBelow, finished}

@@ -2,8 +2,8 @@
 // The definitions stand in specs/Ends.antt.
 ghost use mathlib.Core.Path.{_≡_};
 ghost use Prim.Native.Nat.{ℕ, _+_, _*_, _≤_, _<_};
+ghost use Rattle.house.specs.Limits.{mostBoxes, mostDistricts, mostJobs};
 ghost use Rattle.house.specs.Plan.{sizeOf};
-ghost use Rattle.rehearsal.specs.Night.{mostBoxes};
 ghost use Rattle.closing.specs.Endings.{jobsOf, shownOf, firstOf, listedIn, doneIn, finished};
 ghost use Rattle.closing.specs.Holders.{Holders, withHolder};
 ghost use Rattle.closing.specs.Ends.{endWith, noEnds, OneMore};
@@ -42,7 +42,7 @@ pub fn jobs_of(x: BoxState) -> [u8; house::JOBS]
 
 // how many jobs of its list are shown
 pub fn shown_of(x: BoxState) -> usize
-    ensures { λ r. ⌜ (r ≡ shownOf x) × (r ≤ 64) ⌝ }
+    ensures { λ r. ⌜ (r ≡ shownOf x) × (r ≤ mostJobs) ⌝ }
 {
     let c = x.core;
     let n = c.count;
@@ -135,7 +135,7 @@ fn listed_in(holders: u32, low: BoxNo, size: u8) -> bool
 
 // a district is done with the job if the job doesn't name it, or is on the list of one of its boxes
 fn done_in(plan: Plan, job: u8, holders: u32, d: District) -> bool
-    requires { ⌜ d .0 < 4 ⌝ }
+    requires { ⌜ d .0 < mostDistricts ⌝ }
     ensures { λ r. ⌜ ((night : Night) → Holders night job (d .0 * sizeOf plan + sizeOf plan) holders → r ≡ doneIn plan night job (d .0)) ⌝ }
 {
     let size = house::size_of(plan);
@@ -146,7 +146,7 @@ fn done_in(plan: Plan, job: u8, holders: u32, d: District) -> bool
 
 // every district is done with the job
 pub fn finished_below(plan: Plan, job: u8, holders: u32, n: u8) -> bool
-    requires { ⌜ n ≤ 4 ⌝ }
+    requires { ⌜ n ≤ mostDistricts ⌝ }
     ensures { λ r. ⌜ ((night : Night) → Holders night job (n * sizeOf plan) holders → r ≡ finished plan night job n) ⌝ }
 {
     let mut ok = true;

@@ -6,5 +6,5 @@ mod endings;
 pub use closing::close;
 
 // the room of the report
-pub const REPORT_ROOM: usize = rehearsal::MOST_BOXES * report::BOX_ROOM
+pub const REPORT_ROOM: usize = house::MOST_BOXES * report::BOX_ROOM
     + house::JOBS * report::JOB_ROOM;

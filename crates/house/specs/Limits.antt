@@ -5,6 +5,10 @@ use Prim.Native.Nat.{ℕ}
 abbrev pub mostDistricts : ℕ
 mostDistricts = 4
 
+-- boxes of the largest plan: districts of three
+abbrev pub mostBoxes : ℕ
+mostBoxes = 12
+
 -- jobs J: 1 to 64
 abbrev pub mostJobs : ℕ
 mostJobs = 64

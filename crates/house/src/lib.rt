@@ -1,4 +1,4 @@
-// Document 01, 'Numbers': stamps, ballots, rows, the plan, marks and quorums, and their limits.
+// Document 01, 'Numbers' and 'Orders': stamps, ballots, rows, the plan, marks and quorums, their limits, and the orders.
 // The definitions stand in specs/: Limits, Pairs, Plan, Marks.
 mod marks;
 mod pairs;
@@ -44,6 +44,9 @@ pub use plans::stamp_named;
 pub use sound_plans::plan_sound;
 
 pub const MOST_DISTRICTS: u8 = 4;
+
+// boxes of the largest plan
+pub const MOST_BOXES: usize = 12;
 
 pub const MOST_JOBS: u8 = 64;
 
@@ -97,4 +100,13 @@ pub struct Plan {
     pub districts: u8,
     pub jobs: u8,
     pub masks: [u8; JOBS],
+}
+
+// an order, with the numbers that were typed
+pub enum Order {
+    Post(u32),
+    Stand(u32),
+    Retry(u32, u32),
+    Cut(u32),
+    Carry(u32),
 }

@@ -10,12 +10,13 @@ use Rattle.house.specs.declared.Ballot.{Ballot}
 use Rattle.house.specs.declared.BoxNo.{BoxNo}
 use Rattle.house.specs.Plan.{boxesOf, homeOf, names}
 use Rattle.house.specs.declared.Plan.{Plan}
+use Rattle.house.specs.declared.Order.{Order}
 use Rattle.records.specs.Rec.{Rec}
 use Rattle.boxes.specs.Box.{listedAt}
 use Rattle.boxes.specs.Out.{does}
 use Rattle.boxes.specs.declared.BoxState.{BoxState}
 use Rattle.boxes.specs.declared.Delivery.{Delivery}
-use Rattle.world.specs.World.{Order, boxAt, given, whose}
+use Rattle.world.specs.World.{boxAt, given, whose}
 use Rattle.in_order.specs.Words.{after, Shows, FinalStamp, Rises, Once, SameOrder, ListBegins, Delivered, HandsOut, HandedBefore}
 
 -- (1) a job has one final stamp: two of them, at whatever moments of a run and of whatever continues it, are equal

@@ -14,11 +14,12 @@ use Rattle.house.specs.Plan.{boxesOf, homeOf}
 use Rattle.house.specs.declared.Plan.{Plan}
 use Rattle.records.specs.Rec.{Rec, deliver}
 use Rattle.records.specs.declared.Handout.{Handout}
+use Rattle.house.specs.declared.Order.{Order}
 use Rattle.boxes.specs.Box.{rowAt, listedAt}
 use Rattle.boxes.specs.declared.BoxState.{BoxState}
 use Rattle.boxes.specs.declared.Delivery.{Delivery}
 use Rattle.boxes.specs.declared.Delivery.the-variants.{Nothing, Job}
-use Rattle.world.specs.World.{World, Order, boxAt, new, run}
+use Rattle.world.specs.World.{World, boxAt, new, run}
 
 -- the world after a list of orders, from fresh boxes and an empty post
 abbrev pub after : Plan → List Order → World

@@ -2,6 +2,7 @@
 // The definition, onAccept, stands in specs/Accept.antt of boxes.
 ghost use mathlib.Core.Path.{_≡_};
 ghost use Prim.Native.Nat.{_<_, _≤_};
+ghost use Rattle.house.specs.Limits.{mostDistricts, mostJobs};
 ghost use Rattle.laws.specs.Choice.{pick};
 ghost use Rattle.house.specs.Marks.{noMarks, marksOf};
 ghost use Rattle.boxes.specs.Accept.{ballotFits, stampFits, sameKept, kept, keptBelow, allKept, latestKept, acceptedRow, accepted, keptLeader, whenKept, onAccept, acceptAnswer};
@@ -85,7 +86,7 @@ fn marks_after(same: bool, marks: u32) -> u32
 }
 
 fn keep(x: BoxState, job: u8, d: District, y: Proposal) -> BoxState
-    requires { ⌜ (job < 64) × (d .0 < 4) ⌝ }
+    requires { ⌜ (job < mostJobs) × (d .0 < mostDistricts) ⌝ }
     ensures { λ r. ⌜ r ≡ kept x job d y ⌝ }
 {
     let same = same_kept(x, job, d, y);
@@ -158,7 +159,7 @@ fn row_accepted(row: Row, s: Stamp) -> Row
 }
 
 fn accept(plan: Plan, x: BoxState, job: u8) -> BoxState
-    requires { ⌜ job < 64 ⌝ }
+    requires { ⌜ job < mostJobs ⌝ }
     ensures { λ r. ⌜ r ≡ accepted plan x job ⌝ }
 {
     let c = x.core;
@@ -192,7 +193,7 @@ fn kept_leaders(plan: Plan, x: BoxState, job: u8) -> u32
 
 // 2 ACCEPT, once it is kept
 fn when_kept(plan: Plan, x: BoxState, job: u8, tray: &mut [u8]) -> Outcome
-    requires { ⌜ (planSound plan ≡ true) × (job < 64) × (length (encodeAll plan (recordsOf (whenKept plan x job))) ≤ length (now tray)) ⌝ }
+    requires { ⌜ (planSound plan ≡ true) × (job < mostJobs) × (length (encodeAll plan (recordsOf (whenKept plan x job))) ≤ length (now tray)) ⌝ }
     ensures { λ r. ⌜ (r ≡ resultOf plan x (whenKept plan x job)) × (now (tray .exit) ≡ onto (encodeAll plan (recordsOf (whenKept plan x job))) (now (tray .entry))) ⌝ }
 {
     if all_kept(plan, x, job) {
@@ -215,7 +216,7 @@ pub fn do_accept(
     y: Proposal,
     tray: &mut [u8],
 ) -> Outcome
-    requires { ⌜ (planSound plan ≡ true) × (job < 64) × (homeOf plan from .0 < 4) × (length (encodeAll plan (recordsOf (onAccept plan x from job y))) ≤ length (now tray)) × (acceptAnswer plan x from job y ≡ Answer.Done) ⌝ }
+    requires { ⌜ (planSound plan ≡ true) × (job < mostJobs) × (homeOf plan from .0 < mostDistricts) × (length (encodeAll plan (recordsOf (onAccept plan x from job y))) ≤ length (now tray)) × (acceptAnswer plan x from job y ≡ Answer.Done) ⌝ }
     ensures { λ r. ⌜ (r ≡ resultOf plan x (onAccept plan x from job y)) × (now (tray .exit) ≡ onto (encodeAll plan (recordsOf (onAccept plan x from job y))) (now (tray .entry))) ⌝ }
 {
     let d = house::home_of(plan, from);

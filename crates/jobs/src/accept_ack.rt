@@ -2,6 +2,7 @@
 // The definition, onAcceptAck, stands in specs/AcceptAck.antt of boxes.
 ghost use mathlib.Core.Path.{_≡_};
 ghost use Prim.Native.Nat.{_<_, _≤_};
+ghost use Rattle.house.specs.Limits.{mostJobs};
 ghost use Rattle.house.specs.Marks.{marked};
 ghost use Rattle.boxes.specs.Box.{marksAt, putMarks};
 ghost use Rattle.boxes.specs.AcceptAck.{agreeBelow, agree, enough, committed, whenMarked, onAcceptAck, acceptAckAnswer};
@@ -68,7 +69,7 @@ pub fn decide_accept_ack(
 }
 
 fn mark_by(x: BoxState, job: u8, from: BoxNo) -> BoxState
-    requires { ⌜ job < 64 ⌝ }
+    requires { ⌜ job < mostJobs ⌝ }
     ensures { λ r. ⌜ r ≡ putMarks x job (marked (marksAt x job) from) ⌝ }
 {
     let old = boxes::marks_at(x, job);
@@ -89,7 +90,7 @@ fn is_enough(plan: Plan, x: BoxState, job: u8) -> bool
 
 // phase 3, global stamp the largest kept, local the own kept (H)
 fn commit(plan: Plan, x: BoxState, job: u8) -> BoxState
-    requires { ⌜ job < 64 ⌝ }
+    requires { ⌜ job < mostJobs ⌝ }
     ensures { λ r. ⌜ r ≡ committed plan x job ⌝ }
 {
     let c = x.core;
@@ -107,7 +108,7 @@ fn commit(plan: Plan, x: BoxState, job: u8) -> BoxState
 
 // 3 ACCEPT_ACK, once it is marked
 fn when_marked(plan: Plan, x: BoxState, job: u8, tray: &mut [u8]) -> Outcome
-    requires { ⌜ (planSound plan ≡ true) × (job < 64) × (length (encodeAll plan (recordsOf (whenMarked plan x job))) ≤ length (now tray)) ⌝ }
+    requires { ⌜ (planSound plan ≡ true) × (job < mostJobs) × (length (encodeAll plan (recordsOf (whenMarked plan x job))) ≤ length (now tray)) ⌝ }
     ensures { λ r. ⌜ (r ≡ resultOf plan x (whenMarked plan x job)) × (now (tray .exit) ≡ onto (encodeAll plan (recordsOf (whenMarked plan x job))) (now (tray .entry))) ⌝ }
 {
     if is_enough(plan, x, job) {
@@ -130,7 +131,7 @@ pub fn do_accept_ack(
     ballots: [Ballot; house::DISTRICTS],
     tray: &mut [u8],
 ) -> Outcome
-    requires { ⌜ (planSound plan ≡ true) × (job < 64) × (length (encodeAll plan (recordsOf (onAcceptAck plan x from job ballots))) ≤ length (now tray)) × (acceptAckAnswer plan x from job ballots ≡ Answer.Done) ⌝ }
+    requires { ⌜ (planSound plan ≡ true) × (job < mostJobs) × (length (encodeAll plan (recordsOf (onAcceptAck plan x from job ballots))) ≤ length (now tray)) × (acceptAckAnswer plan x from job ballots ≡ Answer.Done) ⌝ }
     ensures { λ r. ⌜ (r ≡ resultOf plan x (onAcceptAck plan x from job ballots)) × (now (tray .exit) ≡ onto (encodeAll plan (recordsOf (onAcceptAck plan x from job ballots))) (now (tray .entry))) ⌝ }
 {
     let y = mark_by(x, job, from);

@@ -2,6 +2,7 @@
 // The definition, onDeliver, stands in specs/Deliver.antt of boxes.
 ghost use mathlib.Core.Path.{_≡_};
 ghost use Prim.Native.Nat.{_<_};
+ghost use Rattle.house.specs.Limits.{mostJobs};
 ghost use Rattle.boxes.specs.Deliver.{delivered, onDeliver, deliverAnswer};
 ghost use Rattle.boxes.specs.Out.{resultOf};
 use boxes::BoxState;
@@ -32,7 +33,7 @@ pub fn decide_deliver(plan: Plan, x: BoxState, job: u8, y: Handout) -> Answer
 
 // phase 3, both stamps, clock raised, job added to the list
 fn deliver(x: BoxState, job: u8, y: Handout) -> BoxState
-    requires { ⌜ (job < 64) × (x .core .count < 64) ⌝ }
+    requires { ⌜ (job < mostJobs) × (x .core .count < mostJobs) ⌝ }
     ensures { λ r. ⌜ r ≡ delivered x job y ⌝ }
 {
     let c = x.core;
@@ -51,7 +52,7 @@ fn deliver(x: BoxState, job: u8, y: Handout) -> BoxState
 
 // 4 DELIVER
 pub fn do_deliver(plan: Plan, x: BoxState, job: u8, y: Handout) -> Outcome
-    requires { ⌜ (job < 64) × (x .core .count < 64) × (deliverAnswer plan x job y ≡ Answer.Done) ⌝ }
+    requires { ⌜ (job < mostJobs) × (x .core .count < mostJobs) × (deliverAnswer plan x job y ≡ Answer.Done) ⌝ }
     ensures { λ r. ⌜ r ≡ resultOf plan x (onDeliver plan x job y) ⌝ }
 {
     let z = deliver(x, job, y);

@@ -2,7 +2,7 @@
 // The definition, onMulticast, stands in specs/Multicast.antt of boxes.
 ghost use mathlib.Core.Path.{_≡_};
 ghost use Prim.Native.Nat.{_<_, _≤_};
-ghost use Rattle.house.specs.Limits.{mostTime};
+ghost use Rattle.house.specs.Limits.{mostTime, mostJobs};
 ghost use Rattle.boxes.specs.Multicast.{proposed, onMulticast, multicastAnswer};
 ghost use mathlib.Core.Bool.{true};
 ghost use lib.ListN.{length};
@@ -33,7 +33,7 @@ pub fn decide_multicast(plan: Plan, x: BoxState, job: u8) -> Answer
 
 // phase 0: clock + 1, new local stamp, phase 1
 fn propose(plan: Plan, x: BoxState, job: u8) -> BoxState
-    requires { ⌜ (job < 64) × (x .core .clock ≤ mostTime) ⌝ }
+    requires { ⌜ (job < mostJobs) × (x .core .clock ≤ mostTime) ⌝ }
     ensures { λ r. ⌜ r ≡ proposed plan x job ⌝ }
 {
     let row = boxes::row_at(x, job);
@@ -59,7 +59,7 @@ fn propose(plan: Plan, x: BoxState, job: u8) -> BoxState
 
 // 1 MULTICAST
 pub fn do_multicast(plan: Plan, x: BoxState, job: u8, tray: &mut [u8]) -> Outcome
-    requires { ⌜ (planSound plan ≡ true) × (job < 64) × (x .core .clock ≤ mostTime) × (length (encodeAll plan (recordsOf (onMulticast plan x job))) ≤ length (now tray)) × (multicastAnswer plan x job ≡ Answer.Done) ⌝ }
+    requires { ⌜ (planSound plan ≡ true) × (job < mostJobs) × (x .core .clock ≤ mostTime) × (length (encodeAll plan (recordsOf (onMulticast plan x job))) ≤ length (now tray)) × (multicastAnswer plan x job ≡ Answer.Done) ⌝ }
     ensures { λ r. ⌜ (r ≡ resultOf plan x (onMulticast plan x job)) × (now (tray .exit) ≡ onto (encodeAll plan (recordsOf (onMulticast plan x job))) (now (tray .entry))) ⌝ }
 {
     let y = propose(plan, x, job);

@@ -4,6 +4,7 @@ ghost use mathlib.Core.Path.{_≡_};
 ghost use mathlib.Core.Bool.{true};
 ghost use mathlib.Core.List.{[], _∷_};
 ghost use Prim.Native.Nat.{ℕ, _≤_};
+ghost use Rattle.house.specs.Limits.{mostJobs};
 ghost use Rattle.laws.specs.Choice.{pick};
 ghost use Rattle.house.specs.Pairs.{higherBallot};
 ghost use Rattle.boxes.specs.NewleaderAck.{voteOf, votesWith};
@@ -88,7 +89,7 @@ fn merged_row(low: Ballot, a: Row, high: Ballot, b: Row) -> Row
 }
 
 fn merged_table(low: Vote, high: Vote, jobs: u8) -> [Row; house::JOBS]
-    requires { ⌜ jobs ≤ 64 ⌝ }
+    requires { ⌜ jobs ≤ mostJobs ⌝ }
     ensures { λ r. ⌜ r ≡ mergedTable (low ∷ high ∷ []) jobs ⌝ }
 {
     let one = low.cballot;
@@ -108,7 +109,7 @@ fn merged_table(low: Vote, high: Vote, jobs: u8) -> [Row; house::JOBS]
 
 // two votes, the lower box number first
 fn merge_two(low: Vote, high: Vote, jobs: u8) -> Merged
-    requires { ⌜ jobs ≤ 64 ⌝ }
+    requires { ⌜ jobs ≤ mostJobs ⌝ }
     ensures { λ r. ⌜ (r .clock ≡ topClock (low ∷ high ∷ [])) × (r .table ≡ mergedTable (low ∷ high ∷ []) jobs) ⌝ }
 {
     let clock = top_clock(low, high);
@@ -121,7 +122,7 @@ fn merge_two(low: Vote, high: Vote, jobs: u8) -> Merged
 
 // the kept vote and the new one, by rising box number
 fn merge_votes(old: Vote, new: Vote, jobs: u8) -> Merged
-    requires { ⌜ (old .held ≡ true) × (jobs ≤ 64) ⌝ }
+    requires { ⌜ (old .held ≡ true) × (jobs ≤ mostJobs) ⌝ }
     ensures { λ r. ⌜ (r .clock ≡ topClock (votesWith old new)) × (r .table ≡ mergedTable (votesWith old new) jobs) ⌝ }
 {
     let p = old.voter;
@@ -134,7 +135,7 @@ fn merge_votes(old: Vote, new: Vote, jobs: u8) -> Merged
 
 // table merged, clock the larger, sent flags cleared, cballot set, vote dropped
 pub fn merge(plan: Plan, x: BoxState, new: Vote) -> BoxState
-    requires { ⌜ (x .volatile .vote .held ≡ true) × (plan .jobs ≤ 64) ⌝ }
+    requires { ⌜ (x .volatile .vote .held ≡ true) × (plan .jobs ≤ mostJobs) ⌝ }
     ensures { λ r. ⌜ r ≡ merged plan x (votesWith (x .volatile .vote) new) ⌝ }
 {
     let c = x.core;

@@ -4,9 +4,11 @@ use Prim.Native.Nat.{ℕ, _≤_, _<_}
 use mathlib.Core.Bool.{Bool, true, false}
 use mathlib.Core.List.{List, []}
 use mathlib.Core.Path.{_≡_}
-use Rattle.house.specs.Limits.{leastTray}
+use Rattle.house.specs.Limits.{mostBoxes, leastTray}
 use Rattle.house.specs.Plan.{planSound}
 use Rattle.house.specs.declared.Plan.{Plan}
+use Rattle.house.specs.declared.Order.{Order}
+use Rattle.house.specs.declared.Order.the-variants.{Post, Stand, Retry, Cut, Carry}
 use Rattle.records.specs.Answers.{notSound, noSuch}
 use Rattle.post.specs.Posting.{mostPlace, startOf, bytesFrom}
 use Rattle.post.specs.Index.{Indexed}
@@ -15,11 +17,9 @@ use Rattle.boxes.specs.Post.{posts}
 use Rattle.boxes.specs.Step.{receives, retried, stood, cutOff}
 use Rattle.boxes.specs.declared.BoxState.{BoxState}
 use Rattle.boxes.specs.declared.Delivery.the-variants.{Nothing}
-use Rattle.rehearsal.specs.Night.{mostBoxes, boxIn, whose, exists, ifFits}
+use Rattle.rehearsal.specs.Night.{boxIn, whose, exists, ifFits}
 use Rattle.rehearsal.specs.declared.Night.{Night}
-use Rattle.rehearsal.specs.declared.Order.{Order}
 use Rattle.rehearsal.specs.declared.exists.Place.{Place}
-use Rattle.rehearsal.specs.declared.Order.the-variants.{Post, Stand, Retry, Cut, Carry}
 
 -- the box stands at a place of the night, and the order is for that place, if the plan is sound and there is one that it is for
 pub record Stands (P : Plan) (used : ℕ) (x : BoxState) (s : List ℕ) (o : Order) (n : Night) (at : ℕ) : Type 0 where

@@ -5,12 +5,12 @@ use mathlib.Core.List.{List}
 use mathlib.Core.Path.{_≡_}
 use lib.ListN.{length}
 use Rattle.house.specs.declared.Plan.{Plan}
+use Rattle.house.specs.declared.Order.{Order}
 use Rattle.records.specs.Answers.{Answered}
 use Rattle.boxes.specs.Out.{recordsOf}
 use Rattle.boxes.specs.Promise.{wasDone, numberOf}
 use Rattle.rehearsal.specs.Night.{whose, given, turnOf, postOf, freshNight}
 use Rattle.rehearsal.specs.declared.Night.{Night}
-use Rattle.rehearsal.specs.declared.Order.{Order}
 use Rattle.rehearsal.specs.declared.nights.Turn.{Turn}
 
 -- fresh_night: fresh boxes, and nothing of the post is used

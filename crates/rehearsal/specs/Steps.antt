@@ -7,6 +7,8 @@ use lib.ListN.{length}
 use Rattle.house.specs.Limits.{mostJobs, mostNumber, leastTray}
 use Rattle.house.specs.Plan.{planSound}
 use Rattle.house.specs.declared.Plan.{Plan}
+use Rattle.house.specs.declared.Order.{Order}
+use Rattle.house.specs.declared.Order.the-variants.{Post, Stand, Retry, Cut, Carry}
 use Rattle.records.specs.Bytes.{encodeAll}
 use Rattle.records.specs.Rec.{meaning}
 use Rattle.records.specs.declared.Answer.{Answer}
@@ -26,8 +28,6 @@ use Rattle.steps.specs.Acting.{Acting}
 use Rattle.steps.specs.Judged.{judged}
 use Rattle.rehearsal.specs.Night.{exists, ifFits}
 use Rattle.rehearsal.specs.Alone.{here, alone}
-use Rattle.rehearsal.specs.declared.Order.{Order}
-use Rattle.rehearsal.specs.declared.Order.the-variants.{Post, Stand, Retry, Cut, Carry}
 
 -- the step of an order that nothing refuses; a carry takes the record r
 abbrev pub stepOf : Plan → BoxState → Order → Record → Out

@@ -3,16 +3,17 @@
 ghost use mathlib.Core.Path.{_≡_};
 ghost use mathlib.Core.Bool.{true, false};
 ghost use Prim.Native.Nat.{ℕ, _<_, _≤_};
+ghost use Rattle.house.specs.Limits.{mostBoxes};
 ghost use Rattle.house.specs.Plan.{planSound};
+ghost use Rattle.house.specs.declared.Order.the-variants.{Carry};
 ghost use Rattle.boxes.specs.Sound.{sound};
 ghost use Rattle.boxes.specs.Lengths.{Lengths};
 ghost use Rattle.post.specs.Index.{Indexed};
 ghost use Rattle.post.specs.Posting.{mostPlace};
-ghost use Rattle.rehearsal.specs.Night.{mostBoxes, exists};
+ghost use Rattle.rehearsal.specs.Night.{exists};
 ghost use Rattle.rehearsal.specs.Alone.{here, Starts, Found};
-ghost use Rattle.rehearsal.specs.declared.Order.the-variants.{Carry};
-use crate::Order;
 use boxes::BoxState;
+use house::Order;
 use house::Plan;
 
 // which box an order is for, the first if there is none such; where the record begins that it carries; how far the index goes
@@ -26,7 +27,7 @@ pub struct Place {
 fn place_of(p: u32) -> usize
     ensures { λ r. ⌜ (r < mostBoxes) × (p < mostBoxes → r ≡ p) ⌝ }
 {
-    if p < crate::MOST_BOXES as u32 {
+    if p < house::MOST_BOXES as u32 {
         return p as usize;
     }
     0

@@ -14,20 +14,8 @@ pub use nights::rehearse;
 pub use settling::settle;
 pub use settling::step;
 
-// so many boxes has the largest plan
-pub const MOST_BOXES: usize = 12;
-
 // a night: the boxes, and how many bytes of the post hold records
 pub struct Night {
-    pub boxes: [BoxState; MOST_BOXES],
+    pub boxes: [BoxState; house::MOST_BOXES],
     pub used: usize,
-}
-
-// an order with the numbers that were typed
-pub enum Order {
-    Post(u32),
-    Stand(u32),
-    Retry(u32, u32),
-    Cut(u32),
-    Carry(u32),
 }

@@ -2,18 +2,19 @@
 // The promises stand in specs/Promises.antt.
 ghost use mathlib.Core.Path.{_≡_};
 ghost use Prim.Native.Nat.{_<_};
-ghost use Rattle.rehearsal.specs.Night.{mostBoxes, boxIn};
+ghost use Rattle.house.specs.Limits.{mostBoxes};
+ghost use Rattle.rehearsal.specs.Night.{boxIn};
 ghost use lib.ListN.{set};
 ghost use Rattle.rehearsal.specs.Alone.{Stands};
 ghost use Rattle.rehearsal.specs.Steps.{Goes};
 ghost use Rattle.rehearsal.specs.Promises.{NightFresh, OrderRehearsed};
 use crate::Night;
-use crate::Order;
 use crate::exists;
 use crate::judging;
 use crate::settling;
 use boxes::BoxState;
 use house::BoxNo;
+use house::Order;
 use house::Plan;
 use records::Answer;
 use records::Record;
@@ -99,8 +100,8 @@ pub fn fresh_night() -> Night
     ensures { λ n. ⌜ NightFresh n ⌝ }
 {
     let none = boxes::fresh_box(BoxNo(0));
-    let mut boxes = [none; crate::MOST_BOXES];
-    for at in 0..crate::MOST_BOXES {
+    let mut boxes = [none; house::MOST_BOXES];
+    for at in 0..house::MOST_BOXES {
         let x = boxes::fresh_box(BoxNo(at as u8));
         boxes[at] = x;
     }

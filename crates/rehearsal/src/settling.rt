@@ -15,10 +15,10 @@ ghost use Rattle.boxes.specs.Out.{does, resultOf, recordsOf};
 ghost use Rattle.boxes.specs.declared.Delivery.the-variants.{Nothing};
 ghost use Rattle.rehearsal.specs.Steps.{stepOf, Can};
 ghost use Rattle.rehearsal.specs.Settled.{Settles};
-use crate::Order;
 use boxes::BoxState;
 use boxes::Delivery;
 use boxes::Outcome;
+use house::Order;
 use house::Plan;
 use records::Record;
 

@@ -10,6 +10,7 @@ use Rattle.house.specs.declared.Ballot.{Ballot}
 use Rattle.house.specs.declared.BoxNo.{BoxNo}
 use Rattle.house.specs.Plan.{boxesOf, homeOf, names}
 use Rattle.house.specs.declared.Plan.{Plan}
+use Rattle.house.specs.declared.Order.{Order}
 use Rattle.records.specs.Rec.{Rec}
 use Rattle.boxes.specs.Box.{listedAt}
 use Rattle.boxes.specs.Out.{does}
@@ -17,7 +18,6 @@ use Rattle.boxes.specs.declared.BoxState.{BoxState}
 use Rattle.boxes.specs.declared.Delivery.{Delivery}
 use Rattle.in_order.specs.Words.{Rises, Once, SameOrder, ListBegins, Delivered}
 use Rattle.rehearsal.specs.Night.{whose}
-use Rattle.rehearsal.specs.declared.Order.{Order}
 use Rattle.rehearsed.specs.Runs.{answered}
 use Rattle.rehearsed.specs.Words.{afterwards, boxOn, Shows, FinalStamp, HandsOut, HandedBefore}
 

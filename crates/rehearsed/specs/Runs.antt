@@ -3,6 +3,7 @@
 use Prim.Native.Nat.{ℕ}
 use mathlib.Core.List.{List, [], _∷_}
 use Rattle.house.specs.declared.Plan.{Plan}
+use Rattle.house.specs.declared.Order.{Order}
 use Rattle.records.specs.Bytes.{parse}
 use Rattle.records.specs.Rec.{Rec, meaning}
 use Rattle.boxes.specs.Out.{Out}
@@ -10,7 +11,6 @@ use Rattle.rehearsal.specs.Night as Nights
 use Rattle.post.specs.Posting.{startOf, bytesFrom}
 use Rattle.rehearsal.specs.Night.{freshNight}
 use Rattle.rehearsal.specs.declared.Night.{Night}
-use Rattle.rehearsal.specs.declared.Order.{Order}
 use Rattle.rehearsed.specs.Turns.{nightAfter, postAfter}
 
 -- ---- a rehearsal

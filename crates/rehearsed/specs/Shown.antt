@@ -5,7 +5,7 @@ use mathlib.Core.List.{List, [], _∷_, _++_}
 use mathlib.Core.Path.{_≡_}
 use Rattle.house.specs.Plan.{boxesOf}
 use Rattle.house.specs.declared.Plan.{Plan}
-use Rattle.rehearsal.specs.declared.Order.{Order}
+use Rattle.house.specs.declared.Order.{Order}
 use Rattle.lines.specs.Feed.{joined}
 use Rattle.lines.specs.Orders.{ordersOf}
 use Rattle.lines.specs.declared.Order as typed

@@ -5,10 +5,10 @@ use mathlib.Core.List.{List, [], _∷_, _++_, foldl}
 use Rattle.laws.specs.Choice.{pick}
 use Rattle.laws.specs.Place.{At}
 use Rattle.house.specs.declared.Plan.{Plan}
+use Rattle.house.specs.declared.Order.{Order}
+use Rattle.house.specs.declared.Order as ask
 use Rattle.rehearsal.specs.Night.{boxIn, whose, turnOf}
 use Rattle.rehearsal.specs.declared.Night.{Night}
-use Rattle.rehearsal.specs.declared.Order.{Order}
-use Rattle.rehearsal.specs.declared.Order as ask
 use Rattle.lines.specs.declared.Order as typed
 use Rattle.session.specs.Desk.{emptyDesk, districtsHere, jobHere, withDistricts, withJob, fixedDesk}
 use Rattle.session.specs.declared.Desk.{Desk}

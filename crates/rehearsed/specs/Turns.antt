@@ -3,10 +3,10 @@
 use Prim.Native.Nat.{ℕ}
 use mathlib.Core.List.{List}
 use Rattle.house.specs.declared.Plan.{Plan}
+use Rattle.house.specs.declared.Order.{Order}
 use Rattle.rehearsal.specs.Night as Nights
 use Rattle.rehearsal.specs.Night.{turnOf, postOf}
 use Rattle.rehearsal.specs.declared.Night.{Night}
-use Rattle.rehearsal.specs.declared.Order.{Order}
 
 -- ---- after an order
 

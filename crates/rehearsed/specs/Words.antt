@@ -10,11 +10,11 @@ use Rattle.house.specs.Plan.{boxesOf, homeOf}
 use Rattle.house.specs.declared.Plan.{Plan}
 use Rattle.records.specs.Rec.{Rec, deliver}
 use Rattle.records.specs.declared.Handout.{Handout}
+use Rattle.house.specs.declared.Order.{Order}
 use Rattle.boxes.specs.Box.{rowAt}
 use Rattle.boxes.specs.declared.BoxState.{BoxState}
 use Rattle.post.specs.Posting.{startOf}
 use Rattle.rehearsal.specs.Night.{boxIn}
-use Rattle.rehearsal.specs.declared.Order.{Order}
 use Rattle.rehearsed.specs.Runs.{Stage, rehearsed, beginning, saidAt}
 
 -- the night and the post after a list of orders, from fresh boxes and a lent post of any bytes of which none is used

@@ -3,6 +3,7 @@
 ghost use mathlib.Core.Path.{_≡_};
 ghost use Prim.Native.Nat.{_≤_};
 ghost use lib.ListN.{length};
+ghost use Rattle.house.specs.Limits.{mostJobs};
 ghost use Rattle.laws.specs.Tray.{onto};
 ghost use Rattle.report.specs.Report.{titled, jobsText, listText, boxText, stampText, jobText, boxMost, jobMost};
 use crate::text;
@@ -20,7 +21,7 @@ fn put_titled(word: &[u8; 3], n: u8, t: &mut [u8]) -> usize
 
 // The first `count` jobs of a list, a space before each.
 fn put_jobs(list: [u8; house::JOBS], count: usize, t: &mut [u8]) -> usize
-    requires { ⌜ (count ≤ 64) × (256 ≤ length (now t)) ⌝ }
+    requires { ⌜ (count ≤ mostJobs) × (256 ≤ length (now t)) ⌝ }
     ensures { λ r. ⌜ (r ≤ 256) × (r ≡ length (jobsText list count)) × (now (t .exit) ≡ onto (jobsText list count) (now (t .entry))) ⌝ }
 {
     let mut used = 0;
@@ -33,7 +34,7 @@ fn put_jobs(list: [u8; house::JOBS], count: usize, t: &mut [u8]) -> usize
 
 // ` list`, the jobs, and the end of the line.
 fn put_list(list: [u8; house::JOBS], count: usize, t: &mut [u8]) -> usize
-    requires { ⌜ (count ≤ 64) × (262 ≤ length (now t)) ⌝ }
+    requires { ⌜ (count ≤ mostJobs) × (262 ≤ length (now t)) ⌝ }
     ensures { λ r. ⌜ (r ≤ 262) × (r ≡ length (listText list count)) × (now (t .exit) ≡ onto (listText list count) (now (t .entry))) ⌝ }
 {
     let a = text::put(b" list", t);
@@ -43,7 +44,7 @@ fn put_list(list: [u8; house::JOBS], count: usize, t: &mut [u8]) -> usize
 
 // `box B list` and the jobs of the list.
 pub fn box_line(number: BoxNo, list: [u8; house::JOBS], count: usize, t: &mut [u8]) -> usize
-    requires { ⌜ (count ≤ 64) × (boxMost ≤ length (now t)) ⌝ }
+    requires { ⌜ (count ≤ mostJobs) × (boxMost ≤ length (now t)) ⌝ }
     ensures { λ r. ⌜ (r ≤ boxMost) × (r ≡ length (boxText (number .0) list count)) × (now (t .exit) ≡ onto (boxText (number .0) list count) (now (t .entry))) ⌝ }
 {
     let a = put_titled(b"box", number.0, t);

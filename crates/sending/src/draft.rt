@@ -1,6 +1,7 @@
 // The records of a step as structs, one function a kind.
 // What each holds stands with its kind in specs/ of boxes.
 ghost use mathlib.Core.Path.{_≡_};
+ghost use Rattle.house.specs.Limits.{mostNumber};
 ghost use Rattle.records.specs.Rec.{multicast, accept, accept-ack, deliver, carried, oneBallot, twoStamps, noRows, newleader, new-state, newstate-ack};
 ghost use Rattle.boxes.specs.Box.{ownOf, rowAt};
 ghost use Rattle.boxes.specs.Accept.{keptFor, keptVector};
@@ -182,7 +183,7 @@ pub fn newstate_ack_record(x: BoxState, to: BoxNo, b: Ballot) -> Record
 
 // 5 NEWLEADER with (ballot number + 1, own)
 pub fn stand_record(x: BoxState, to: BoxNo) -> Record
-    requires { ⌜ x .core .ballot .number < 65535 ⌝ }
+    requires { ⌜ x .core .ballot .number < mostNumber ⌝ }
     ensures { λ r. ⌜ r ≡ carried (newleader (ownOf x) to (nextBallot x)) ⌝ }
 {
     let c = x.core;

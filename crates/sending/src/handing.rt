@@ -4,6 +4,7 @@ ghost use mathlib.Core.Path.{_≡_};
 ghost use mathlib.Core.Bool.{true};
 ghost use Prim.Native.Nat.{_≤_};
 ghost use lib.ListN.{length};
+ghost use Rattle.house.specs.Limits.{mostBoxes};
 ghost use Rattle.laws.specs.Tray.{onto};
 ghost use Rattle.house.specs.Plan.{planSound};
 ghost use Rattle.records.specs.Bytes.{encodeAll};
@@ -31,7 +32,7 @@ pub struct Handed {
 // DELIVER of one job to the boxes of the district
 fn hand_job(t: &mut [u8], plan: Plan, own: BoxNo, b: Ballot, row: Row, job: u8) -> Sent
     requires { ⌜ (planSound plan ≡ true) × (length (encodeAll plan (deliversFrom plan own b row job)) ≤ length (now t)) ⌝ }
-    ensures { λ s. ⌜ (s .used ≡ length (encodeAll plan (deliversFrom plan own b row job))) × (s .records ≡ length (deliversFrom plan own b row job)) × (now (t .exit) ≡ onto (encodeAll plan (deliversFrom plan own b row job)) (now (t .entry))) × (s .records ≤ 12) ⌝ }
+    ensures { λ s. ⌜ (s .used ≡ length (encodeAll plan (deliversFrom plan own b row job))) × (s .records ≡ length (deliversFrom plan own b row job)) × (now (t .exit) ≡ onto (encodeAll plan (deliversFrom plan own b row job)) (now (t .entry))) × (s .records ≤ mostBoxes) ⌝ }
 {
     let r = draft::deliver_record(own, own, job, b, row);
     let meant = house::home_boxes(plan, own);

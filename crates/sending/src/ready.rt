@@ -5,7 +5,7 @@ ghost use mathlib.Core.Logic.{_⊎_};
 ghost use mathlib.Core.Bool.{_||_};
 ghost use Prim.Native.Nat.{_<_, _≤_};
 ghost use lib.Dec.{eqb};
-ghost use Rattle.house.specs.Limits.{noJob};
+ghost use Rattle.house.specs.Limits.{noJob, mostJobs};
 ghost use Rattle.house.specs.declared.Plan.{Plan};
 ghost use Rattle.boxes.specs.Ready.{isOpen, openAbove, nextReady};
 ghost use Rattle.boxes.specs.declared.BoxState.{BoxState};
@@ -29,7 +29,7 @@ pub fn is_open(x: BoxState, job: u8) -> bool
 
 // every open job has a larger local stamp than this one
 fn open_above(table: [Row; house::JOBS], n: usize, s: Stamp) -> bool
-    requires { ⌜ n ≤ 64 ⌝ }
+    requires { ⌜ n ≤ mostJobs ⌝ }
     ensures { λ r. ⌜ ((P : Plan) (x : BoxState) → P .jobs ≡ n → x .core .table ≡ table → r ≡ openAbove P x s) ⌝ }
 {
     let mut ok = true;
@@ -43,7 +43,7 @@ fn open_above(table: [Row; house::JOBS], n: usize, s: Stamp) -> bool
 
 // the next ready job, 255 for none; the open jobs are gone through only for one that waits and is before the best so far
 pub fn next_ready(table: [Row; house::JOBS], sent: [bool; house::JOBS], n: usize) -> u8
-    requires { ⌜ n ≤ 64 ⌝ }
+    requires { ⌜ n ≤ mostJobs ⌝ }
     ensures { λ r. ⌜ ((P : Plan) (x : BoxState) → P .jobs ≡ n → x .core .table ≡ table → x .core .sent ≡ sent → r ≡ nextReady P x) × ((r ≡ noJob) ⊎ (r < n)) ⌝ }
 {
     let mut best = house::NO_JOB;

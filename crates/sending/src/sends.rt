@@ -5,6 +5,7 @@ ghost use mathlib.Core.Bool.{true};
 ghost use mathlib.Core.List.{List};
 ghost use Prim.Native.Nat.{_≤_};
 ghost use lib.ListN.{length};
+ghost use Rattle.house.specs.Limits.{mostBoxes};
 ghost use Rattle.laws.specs.Tray.{onto};
 ghost use Rattle.house.specs.Plan.{planSound};
 ghost use Rattle.records.specs.Bytes.{encodeAll};
@@ -23,7 +24,7 @@ use records::Record;
 // the record to each box that is meant, by rising box number: one copy of it, which names the box in turn
 pub fn send(t: &mut [u8], plan: Plan, r: Record, meant: u32) -> Sent
     requires { ⌜ (planSound plan ≡ true) × (length (sentBytes plan meant r) ≤ length (now t)) ⌝ }
-    ensures { λ s. ⌜ (s .used ≡ length (sentBytes plan meant r)) × (s .records ≡ sentCount plan meant) × (now (t .exit) ≡ onto (sentBytes plan meant r) (now (t .entry))) × (s .records ≤ 12) ⌝ }
+    ensures { λ s. ⌜ (s .used ≡ length (sentBytes plan meant r)) × (s .records ≡ sentCount plan meant) × (now (t .exit) ≡ onto (sentBytes plan meant r) (now (t .entry))) × (s .records ≤ mostBoxes) ⌝ }
 {
     let n = house::boxes_of(plan);
     let mut q = r;

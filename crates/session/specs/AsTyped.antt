@@ -5,7 +5,7 @@ use mathlib.Core.Path.{_≡_}
 use Rattle.lines.specs.declared.Order as typed
 use Rattle.lines.specs.Orders.{post, stand, retry, cut, carry}
 use Rattle.lines.specs.Reads.{orderWord, orderNumbers}
-use Rattle.rehearsal.specs.declared.Order as ask
+use Rattle.house.specs.declared.Order as ask
 
 -- the word of the rehearsal's order
 abbrev pub askedWord : ask.Order → List ℕ

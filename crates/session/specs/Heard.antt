@@ -8,7 +8,7 @@ use Rattle.records.specs.declared.Answer.{Answer}
 use Rattle.records.specs.declared.Answer.the-variants.{Done, No}
 use Rattle.rehearsal.specs.declared.Night.{Night}
 use Rattle.rehearsal.specs.declared.nights.Turn.{Turn}
-use Rattle.rehearsal.specs.declared.Order as ask
+use Rattle.house.specs.declared.Order as ask
 use Rattle.rehearsal.specs.Night.{whose, given, turnOf, postOf}
 use Rattle.lines.specs.declared.Order as typed
 use Rattle.report.specs.Texts.{answerText}

@@ -13,7 +13,7 @@ use Rattle.boxes.specs.declared.BoxState.{BoxState}
 use Rattle.rehearsal.specs.Alone.{Stands, alone}
 use Rattle.rehearsal.specs.Steps.{Goes}
 use Rattle.rehearsal.specs.declared.Night.{Night}
-use Rattle.rehearsal.specs.declared.Order as ask
+use Rattle.house.specs.declared.Order as ask
 use Rattle.lines.specs.declared.Order as typed
 use Rattle.report.specs.Texts.{answerText, answerMost}
 use Rattle.session.specs.declared.Desk.{Desk}

@@ -38,7 +38,7 @@ fn feed_into(s: Session, chunk: &[u8], post: &mut [u8], t: &mut [u8]) -> Fed
     let mut used = s.night.used;
     let mut desk = s.desk;
     let mut line = s.line;
-    let mut known = [false; rehearsal::MOST_BOXES];
+    let mut known = [false; house::MOST_BOXES];
     let mut index = [0u16; post::INDEX_ROOM];
     let mut count = 0;
     let mut text = 0;

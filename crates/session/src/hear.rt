@@ -69,7 +69,7 @@ fn hear_order(
     known: bool,
     used: usize,
     x: BoxState,
-    order: rehearsal::Order,
+    order: house::Order,
     start: usize,
     post: &[u8],
     t: &mut [u8],
@@ -105,18 +105,18 @@ fn hear_order(
 }
 
 // the order as the rehearsal knows it; a plan line asks no box, and the first will do
-pub fn order_of(order: lines::Order) -> rehearsal::Order
+pub fn order_of(order: lines::Order) -> house::Order
     ensures { λ r. ⌜ r ≡ askOf order ⌝ }
 {
     match order {
-        lines::Order::Districts(g) => rehearsal::Order::Post(0),
-        lines::Order::Job(m) => rehearsal::Order::Post(0),
-        lines::Order::Post(j) => rehearsal::Order::Post(j),
-        lines::Order::Stand(p) => rehearsal::Order::Stand(p),
-        lines::Order::Retry(p, j) => rehearsal::Order::Retry(p, j),
-        lines::Order::Cut(p) => rehearsal::Order::Cut(p),
-        lines::Order::Carry(k) => rehearsal::Order::Carry(k),
-        lines::Order::Unreadable => rehearsal::Order::Post(0),
+        lines::Order::Districts(g) => house::Order::Post(0),
+        lines::Order::Job(m) => house::Order::Post(0),
+        lines::Order::Post(j) => house::Order::Post(j),
+        lines::Order::Stand(p) => house::Order::Stand(p),
+        lines::Order::Retry(p, j) => house::Order::Retry(p, j),
+        lines::Order::Cut(p) => house::Order::Cut(p),
+        lines::Order::Carry(k) => house::Order::Carry(k),
+        lines::Order::Unreadable => house::Order::Post(0),
     }
 }
 

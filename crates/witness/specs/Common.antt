@@ -2,7 +2,8 @@
 -- district 0 changes its leader in between.
 use mathlib.Core.List.{List, [], _∷_}
 use Rattle.house.specs.declared.Plan.{Plan}
-use Rattle.world.specs.World.{Order, post, stand, retry, carry}
+use Rattle.house.specs.declared.Order.{Order}
+use Rattle.house.specs.declared.Order.the-variants.{Post, Stand, Retry, Carry}
 use Rattle.witness.specs.Lists.{plan}
 
 abbrev pub ours : Plan
@@ -10,12 +11,12 @@ ours = plan 2 (3 ∷ 3 ∷ [])
 
 abbrev pub orders : List Order
 orders =
-    stand 0 ∷ carry 0 ∷ carry 1 ∷ carry 2 ∷ carry 3 ∷ carry 4 ∷ carry 6 ∷ carry 7 ∷ carry 8 ∷ stand 3 ∷ carry 10 ∷ carry 11 ∷
-    carry 12 ∷ carry 13 ∷ carry 14 ∷ carry 16 ∷ carry 17 ∷ carry 18 ∷ post 0 ∷ post 1 ∷ carry 20 ∷ carry 26 ∷ carry 29 ∷
-    carry 23 ∷ carry 33 ∷ carry 51 ∷ carry 35 ∷ carry 53 ∷ carry 36 ∷ carry 54 ∷ carry 45 ∷ carry 41 ∷ carry 47 ∷ stand 1 ∷
-    carry 65 ∷ carry 66 ∷ carry 68 ∷ carry 67 ∷ carry 70 ∷ carry 71 ∷ retry 3 1 ∷ carry 73 ∷ retry 1 0 ∷ carry 85 ∷ carry 57 ∷
-    carry 93 ∷ carry 57 ∷ carry 35 ∷ carry 94 ∷ carry 91 ∷ carry 92 ∷ carry 52 ∷ carry 100 ∷ carry 102 ∷ carry 96 ∷ carry 98 ∷
-    carry 101 ∷ carry 103 ∷ carry 97 ∷ carry 99 ∷ carry 79 ∷ carry 80 ∷ carry 46 ∷ carry 81 ∷ carry 48 ∷ carry 82 ∷ carry 114 ∷
-    carry 112 ∷ carry 110 ∷ carry 108 ∷ carry 113 ∷ carry 111 ∷ carry 109 ∷ carry 107 ∷ carry 64 ∷ carry 69 ∷ carry 104 ∷
-    carry 121 ∷ carry 105 ∷ carry 122 ∷ carry 106 ∷ carry 123 ∷ carry 115 ∷ carry 118 ∷ carry 116 ∷ carry 119 ∷ carry 117 ∷
-    carry 120 ∷ []
+    Stand 0 ∷ Carry 0 ∷ Carry 1 ∷ Carry 2 ∷ Carry 3 ∷ Carry 4 ∷ Carry 6 ∷ Carry 7 ∷ Carry 8 ∷ Stand 3 ∷ Carry 10 ∷ Carry 11 ∷
+    Carry 12 ∷ Carry 13 ∷ Carry 14 ∷ Carry 16 ∷ Carry 17 ∷ Carry 18 ∷ Post 0 ∷ Post 1 ∷ Carry 20 ∷ Carry 26 ∷ Carry 29 ∷
+    Carry 23 ∷ Carry 33 ∷ Carry 51 ∷ Carry 35 ∷ Carry 53 ∷ Carry 36 ∷ Carry 54 ∷ Carry 45 ∷ Carry 41 ∷ Carry 47 ∷ Stand 1 ∷
+    Carry 65 ∷ Carry 66 ∷ Carry 68 ∷ Carry 67 ∷ Carry 70 ∷ Carry 71 ∷ Retry 3 1 ∷ Carry 73 ∷ Retry 1 0 ∷ Carry 85 ∷ Carry 57 ∷
+    Carry 93 ∷ Carry 57 ∷ Carry 35 ∷ Carry 94 ∷ Carry 91 ∷ Carry 92 ∷ Carry 52 ∷ Carry 100 ∷ Carry 102 ∷ Carry 96 ∷ Carry 98 ∷
+    Carry 101 ∷ Carry 103 ∷ Carry 97 ∷ Carry 99 ∷ Carry 79 ∷ Carry 80 ∷ Carry 46 ∷ Carry 81 ∷ Carry 48 ∷ Carry 82 ∷ Carry 114 ∷
+    Carry 112 ∷ Carry 110 ∷ Carry 108 ∷ Carry 113 ∷ Carry 111 ∷ Carry 109 ∷ Carry 107 ∷ Carry 64 ∷ Carry 69 ∷ Carry 104 ∷
+    Carry 121 ∷ Carry 105 ∷ Carry 122 ∷ Carry 106 ∷ Carry 123 ∷ Carry 115 ∷ Carry 118 ∷ Carry 116 ∷ Carry 119 ∷ Carry 117 ∷
+    Carry 120 ∷ []

@@ -32,8 +32,9 @@ use Rattle.laws.specs.Digits
 use Rattle.laws.specs.Lex
 use Rattle.laws.specs.Majority
 use Rattle.house.specs.declared.Plan.{Plan}
+use Rattle.house.specs.declared.Order.{Order}
 use Rattle.world.specs.World as Worlds
-use Rattle.world.specs.World.{World, Order}
+use Rattle.world.specs.World.{World}
 use Rattle.in_order.specs.Words.{after}
 
 -- the world after a list of orders, all definitions of the steps opened

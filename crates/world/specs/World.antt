@@ -9,6 +9,8 @@ use Rattle.house.specs.Limits.{leastTray}
 use Rattle.house.specs.Pairs.{boxNo}
 use Rattle.house.specs.Plan.{boxesOf, isJob, planSound}
 use Rattle.house.specs.declared.Plan.{Plan}
+use Rattle.house.specs.declared.Order.{Order}
+use Rattle.house.specs.declared.Order.the-variants.{Post, Stand, Retry, Cut, Carry}
 use Rattle.records.specs.Answers.{notSound, noSuch}
 use Rattle.records.specs.Rec.{Rec, unknown, carried, addresseeOf}
 use Rattle.boxes.specs.Box.{fresh}
@@ -21,14 +23,6 @@ use Rattle.boxes.specs.declared.Delivery.the-variants.{Nothing}
 pub record World : Type 0 where
   pub boxes : List BoxState
   pub post : List Rec
-
--- post J, stand B, retry B J, cut B, carry K
-pub data Order : Type 0 where
-  post : (j : ℕ) → Order
-  stand : (p : ℕ) → Order
-  retry : (p j : ℕ) → Order
-  cut : (p : ℕ) → Order
-  carry : (k : ℕ) → Order
 
 -- fresh boxes and an empty post
 unfoldable pub freshBoxes : ℕ → List BoxState
@@ -45,27 +39,27 @@ recordAt w k = getD (w .post) k unknown
 
 -- the box that an order is given to; a post changes no box
 unfoldable pub whose : World → Order → ℕ
-whose w (post j) = 0
-whose w (stand p) = p
-whose w (retry p j) = p
-whose w (cut p) = p
-whose w (carry k) = addresseeOf (recordAt w k) .0
+whose w (Post j) = 0
+whose w (Stand p) = p
+whose w (Retry p j) = p
+whose w (Cut p) = p
+whose w (Carry k) = addresseeOf (recordAt w k) .0
 
 -- such a box, job or record exists
 unfoldable pub exists : Plan → World → Order → Bool
-exists P w (post j) = isJob P j
-exists P w (stand p) = ltb p (boxesOf P)
-exists P w (retry p j) = ltb p (boxesOf P) && isJob P j
-exists P w (cut p) = ltb p (boxesOf P)
-exists P w (carry k) = ltb k (length (w .post))
+exists P w (Post j) = isJob P j
+exists P w (Stand p) = ltb p (boxesOf P)
+exists P w (Retry p j) = ltb p (boxesOf P) && isJob P j
+exists P w (Cut p) = ltb p (boxesOf P)
+exists P w (Carry k) = ltb k (length (w .post))
 
 -- what the box does: exactly its step, with a tray that is large enough
 unfoldable pub acts : Plan → World → Order → Out
-acts P w (post j) = does (boxAt w 0) (posts P j) Nothing
-acts P w (stand p) = stood P (boxAt w p) leastTray
-acts P w (retry p j) = retried P (boxAt w p) j leastTray
-acts P w (cut p) = cutOff P (boxAt w p)
-acts P w (carry k) = takes P (boxAt w (addresseeOf (recordAt w k) .0)) leastTray (carried (recordAt w k))
+acts P w (Post j) = does (boxAt w 0) (posts P j) Nothing
+acts P w (Stand p) = stood P (boxAt w p) leastTray
+acts P w (Retry p j) = retried P (boxAt w p) j leastTray
+acts P w (Cut p) = cutOff P (boxAt w p)
+acts P w (Carry k) = takes P (boxAt w (addresseeOf (recordAt w k) .0)) leastTray (carried (recordAt w k))
 
 -- 1 for the plan, then 11, then the box's own answers
 unfoldable pub given : Plan → World → Order → Out

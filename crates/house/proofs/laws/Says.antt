@@ -12,7 +12,7 @@ use Rattle.laws.proofs.laws.Choice.{pick-true, pick-false, and-left, and-right,
 use Rattle.laws.proofs.laws.Fold.{all-says}
 use Rattle.laws.specs.Digits.{digit}
 use Rattle.laws.proofs.laws.Digits.{digit-zero, digit-beyond}
-use Rattle.house.specs.Limits.{mostDistricts, mostJobs}
+use Rattle.house.specs.Limits.{mostBoxes, mostDistricts, mostJobs}
 use Rattle.house.specs.Pairs.{district, boxNo, noBallot, isNoBallot, realStamp, realBallot}
 use Rattle.house.proofs.laws.Orders.{RealStamp, real-stamp-says, real-stamp-is, RealBallot, real-ballot-says, real-ballot-is, no-ballot-says}
 use Rattle.house.specs.declared.District.{District}
@@ -63,7 +63,7 @@ plan-says P h =
     m = all-says (λ j. maskSound (P .districts) (getD (P .masks) j 0)) (P .jobs) (and-right (countsSound P) (masksSound P (P .jobs)) h)
 
 -- no plan has more than 12 boxes today
-pub boxes-most : (P : Plan) → planSound P ≡ true → boxesOf P ≤ 12
+pub boxes-most : (P : Plan) → planSound P ≡ true → boxesOf P ≤ mostBoxes
 unfolding boxesOf sizeOf
 boxes-most P h = let S = plan-says P h in omega (arith, S .districts-most)
 

@@ -18,6 +18,7 @@ use Rattle.house.proofs.laws.Says.{same-home-is}
 use Rattle.house.specs.declared.Plan.{Plan}
 use Rattle.records.specs.Rec.{Rec, deliver, carried}
 use Rattle.records.specs.declared.Handout.{Handout}
+use Rattle.house.specs.declared.Order.{Order}
 use Rattle.boxes.specs.Box.{ownOf, rowAt}
 use Rattle.boxes.specs.Multicast.{accepts}
 use Rattle.boxes.specs.Accept.{acks}
@@ -28,7 +29,7 @@ use Rattle.boxes.specs.Post.{posts}
 use Rattle.boxes.specs.Retry.{retries}
 use Rattle.boxes.specs.Ready.{Handing, delivers, handNext, handTurns, handOut}
 use Rattle.boxes.specs.declared.BoxState.{BoxState}
-use Rattle.world.specs.World.{World, Order, new, step, run}
+use Rattle.world.specs.World.{World, new, step, run}
 use Rattle.in_order.proofs.laws.Notions.{the}
 use Rattle.in_order.proofs.laws.Sends.{in-each, each-in}
 use Rattle.in_order.proofs.laws.Moves.{Move, m-post, m-retry, m-stand, m-cut, m-propose, m-again, m-keep, m-accept, m-mark, m-commit, m-deliver, m-join}

@@ -15,9 +15,10 @@ use Rattle.house.specs.declared.BoxNo.{BoxNo}
 use Rattle.house.specs.declared.District.{District}
 use Rattle.house.specs.Plan.{homeOf, names}
 use Rattle.house.specs.declared.Plan.{Plan}
+use Rattle.house.specs.declared.Order.{Order}
 use Rattle.records.specs.Rec.{Rec, deliver}
 use Rattle.boxes.specs.Box.{rowAt}
-use Rattle.world.specs.World.{World, Order, new}
+use Rattle.world.specs.World.{World, new}
 use Rattle.in_order.specs.Words.{after, Shows, committed, written, FinalStamp, HandsOut, HandedBefore}
 use Rattle.in_order.proofs.laws.Notions.{DelAt, Cert}
 use Rattle.in_order.proofs.laws.Inv.{Inv}

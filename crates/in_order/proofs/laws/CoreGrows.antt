@@ -5,8 +5,9 @@ use mathlib.Core.List.{List, [], _∷_, _++_}
 use mathlib.Core.Path.{_≡_, refl, sym, subst}
 use Rattle.laws.proofs.laws.Place.{Begins, begins-refl, begins-append, begins-trans}
 use Rattle.house.specs.declared.Plan.{Plan}
+use Rattle.house.specs.declared.Order.{Order}
 use Rattle.boxes.specs.Out.{Out, refused, does}
-use Rattle.world.specs.World.{World, Order, whose, given, finish, step, run}
+use Rattle.world.specs.World.{World, whose, given, finish, step, run}
 
 -- by what the box sends
 finish-grows : (w : World) (p : ℕ) (a : Out) → Begins (w .post) (finish w p a .post)

@@ -20,6 +20,8 @@ use Rattle.records.specs.declared.Proposal.{Proposal}
 use Rattle.records.specs.declared.Handout.{Handout}
 use Rattle.records.specs.declared.Ballotpaper.{Ballotpaper}
 use Rattle.records.specs.declared.NewState.{NewState}
+use Rattle.house.specs.declared.Order.{Order}
+use Rattle.house.specs.declared.Order.the-variants.{Post, Stand, Retry, Cut, Carry}
 use Rattle.records.specs.Rec.{newstate-ack, unknown, carried, meaning}
 use Rattle.boxes.specs.Box.{fresh, listedAt, noListed}
 use Rattle.boxes.specs.Out.{Out, refused, does, guard}
@@ -41,7 +43,7 @@ use Rattle.boxes.proofs.laws.Answers.{under-or}
 use Rattle.boxes.specs.declared.BoxState.{BoxState}
 use Rattle.boxes.specs.declared.Delivery.{Delivery}
 use Rattle.boxes.specs.declared.Delivery.the-variants.{Nothing}
-use Rattle.world.specs.World.{World, Order, post, stand as standing, retry as retrying, cut as cutting, carry, boxAt, recordAt, whose, acts, given, finish}
+use Rattle.world.specs.World.{World, boxAt, recordAt, whose, acts, given, finish}
 use Rattle.world.specs.World.{step, run}
 use Rattle.in_order.specs.Words.{SameList, Delivered, none, one, ListBegins}
 
@@ -164,11 +166,11 @@ fair-react P x unknown = fair-refused
 -- post, stand, retry, cut, carry
 fair-acts : (P : Plan) (w : World) (o : Order) → Fair (boxAt w (whose w o)) (acts P w o)
 unfolding acts whose takes retried stood cutOff retry stand cut
-fair-acts P w (post j) = fair-same same-refl
-fair-acts P w (standing p) = simp under-or (fair-guard _ _ (fair-guard _ _ (fair-guard _ _ (fair-same same-refl))))
-fair-acts P w (retrying p j) = simp under-or (fair-guard _ _ (fair-guard _ _ (fair-guard _ _ (fair-guard _ _ (fair-same same-refl)))))
-fair-acts P w (cutting p) = fair-guard _ _ (fair-same (record { count = refl; list = refl }))
-fair-acts P w (carry k) = fair-guard _ _ (fair-guard _ _ (fair-guard _ _ (fair-guard _ _ (fair-react P _ (meaning (carried (recordAt w k)))))))
+fair-acts P w (Post j) = fair-same same-refl
+fair-acts P w (Stand p) = simp under-or (fair-guard _ _ (fair-guard _ _ (fair-guard _ _ (fair-same same-refl))))
+fair-acts P w (Retry p j) = simp under-or (fair-guard _ _ (fair-guard _ _ (fair-guard _ _ (fair-guard _ _ (fair-same same-refl)))))
+fair-acts P w (Cut p) = fair-guard _ _ (fair-same (record { count = refl; list = refl }))
+fair-acts P w (Carry k) = fair-guard _ _ (fair-guard _ _ (fair-guard _ _ (fair-guard _ _ (fair-react P _ (meaning (carried (recordAt w k)))))))
 
 -- every order
 pub fair-given : (P : Plan) (w : World) (o : Order) → Fair (boxAt w (whose w o)) (given P w o)

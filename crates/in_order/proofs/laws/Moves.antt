@@ -35,9 +35,10 @@ use Rattle.boxes.specs.NewstateAck.{leading}
 use Rattle.boxes.specs.Post.{posts}
 use Rattle.boxes.specs.Retry.{retries}
 use Rattle.boxes.specs.Stand.{nextBallot}
+use Rattle.boxes.specs.Cut.{cut}
 use Rattle.boxes.specs.declared.BoxState.{BoxState}
 use Rattle.boxes.proofs.laws.Sound.{SoundBox}
-use Rattle.world.specs.World.{World, post, cut}
+use Rattle.world.specs.World.{World}
 use Rattle.in_order.proofs.laws.Compare.{Lower, Sooner}
 use Rattle.in_order.proofs.laws.Notions.{the, ballotAt}
 use Rattle.in_order.proofs.laws.Facts.{AcceptFacts, AckFacts, DeliverFacts, LeaderFacts, VoteFacts, StateFacts, NsaFacts}
@@ -163,7 +164,7 @@ module _ (P : Plan) (w : World) (p : BoxNo) where
   box (m-post j) = the w p
   box (m-retry j) = the w p
   box m-stand = the w p
-  box m-cut = Rattle.boxes.specs.Cut.cut (the w p)
+  box m-cut = cut (the w p)
   box (m-propose a n) = proposed P (the w p) (a .j)
   box (m-again a n) = the w p
   box (m-keep a) = keeps a

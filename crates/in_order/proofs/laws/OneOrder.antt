@@ -9,9 +9,10 @@ use Rattle.house.proofs.laws.Orders.{stampOrder}
 use Rattle.house.specs.declared.Stamp.{Stamp}
 use Rattle.house.specs.Plan.{boxesOf}
 use Rattle.house.specs.declared.Plan.{Plan}
+use Rattle.house.specs.declared.Order.{Order}
 use Rattle.boxes.specs.Box.{listedAt}
 use Rattle.boxes.specs.declared.BoxState.{BoxState}
-use Rattle.world.specs.World.{Order, boxAt}
+use Rattle.world.specs.World.{boxAt}
 use Rattle.in_order.specs.Words.{after, FinalStamp, Rises, Once, SameOrder}
 use Rattle.in_order.specs.Demand3.{OneStamp, ListRises, ListOnce, ListFinal, Demand3, OneOrder}
 use Rattle.in_order.proofs.laws.Compare.{Sooner, lt-lt, lt-self}

@@ -8,7 +8,8 @@ use native.Mathlib.Decide.{ℕ-discrete}
 use Rattle.house.specs.Pairs.{boxNo}
 use Rattle.house.specs.Plan.{planSound}
 use Rattle.house.specs.declared.Plan.{Plan}
-use Rattle.world.specs.World.{World, Order, boxAt, new}
+use Rattle.house.specs.declared.Order.{Order}
+use Rattle.world.specs.World.{World, boxAt, new}
 use Rattle.in_order.specs.Words.{after, written, ListBegins}
 use Rattle.in_order.specs.Demand3.{OneStamp, OwnStamp, ListRises, ListFinal, ListGrows, Demand3, OneOrder}
 use Rattle.in_order.proofs.laws.Inv.{Inv}

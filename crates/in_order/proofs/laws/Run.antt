@@ -19,9 +19,10 @@ use Rattle.house.specs.Plan.{boxesOf, homeOf, planSound}
 use Rattle.house.specs.declared.Plan.{Plan}
 use Rattle.house.specs.Marks.{noMarks, hasMark}
 use Rattle.house.proofs.laws.Quorums.{no-mark}
+use Rattle.house.specs.declared.Order.{Order}
 use Rattle.boxes.specs.Box.{isLeader, isRecovering, fresh, freshVolatile, keptAt, keptBallot, marksAt, sentAt, noListed}
 use Rattle.boxes.specs.declared.BoxState.{BoxState}
-use Rattle.world.specs.World.{World, Order, new, step, run}
+use Rattle.world.specs.World.{World, new, step, run}
 use Rattle.world.proofs.laws.Fresh.{fresh-length, fresh-at}
 use Rattle.in_order.proofs.laws.Compare.{le-refl}
 use Rattle.in_order.proofs.laws.Laws.{one-value}

@@ -33,6 +33,7 @@ use Rattle.boxes.specs.Merge.{merged}
 use Rattle.boxes.specs.NewState.{followed}
 use Rattle.boxes.specs.NewstateAck.{leading}
 use Rattle.boxes.specs.NewleaderAck.{voteOf, votesWith}
+use Rattle.boxes.specs.Cut.{cut}
 use Rattle.boxes.specs.declared.BoxState.{BoxState}
 use Rattle.boxes.specs.declared.Listed.{Listed}
 use Rattle.world.specs.World.{World}
@@ -178,7 +179,7 @@ module _ (P : Plan) (w : World) (p : BoxNo) (known : p .0 < boxesOf P) (I : Inv 
   lead-sizes = old-sizes
 
   new-sizes : (m : Move P w p) → SizesOf p (box P w p m)
-  unfolding kept accepted delivered joined merged followed freshVolatile Rattle.boxes.specs.Cut.cut
+  unfolding kept accepted delivered joined merged followed freshVolatile cut
   new-sizes (m-post j) = old-sizes
   new-sizes (m-retry j) = old-sizes
   new-sizes m-stand = old-sizes

@@ -34,6 +34,7 @@ use Rattle.boxes.specs.Newleader.{joined}
 use Rattle.boxes.specs.Merge.{merged}
 use Rattle.boxes.specs.NewState.{followed}
 use Rattle.boxes.specs.NewstateAck.{leading}
+use Rattle.boxes.specs.Cut.{cut}
 use Rattle.boxes.specs.declared.BoxState.{BoxState}
 use Rattle.world.specs.World.{World}
 use Rattle.in_order.proofs.laws.Compare.{Upto, Within, strict, equal, within, Sooner, lt-not, lt-to-le, Compared, under, level, over, compare}
@@ -65,7 +66,7 @@ data FlagStep (P : Plan) (w : World) (p : BoxNo) (m : Move P w p) : Type 0 where
 
 module _ (P : Plan) (w : World) (p : BoxNo) (known : p .0 < boxesOf P) (F : Forms P w) where
   flag-step : (m : Move P w p) → FlagStep P w p m
-  unfolding kept accepted delivered joined merged followed Rattle.boxes.specs.Cut.cut
+  unfolding kept accepted delivered joined merged followed cut
   flag-step (m-post j) = flag-same refl refl
   flag-step (m-retry j) = flag-same refl refl
   flag-step m-stand = flag-same refl refl

@@ -31,6 +31,7 @@ use Rattle.boxes.specs.Newleader.{joined}
 use Rattle.boxes.specs.Merge.{merged}
 use Rattle.boxes.specs.NewState.{followed}
 use Rattle.boxes.specs.NewstateAck.{leading}
+use Rattle.boxes.specs.Cut.{cut}
 use Rattle.boxes.specs.declared.BoxState.{BoxState}
 use Rattle.boxes.specs.declared.Listed.{Listed}
 use Rattle.world.specs.World.{World}
@@ -56,7 +57,7 @@ pub data ListStep (P : Plan) (w : World) (p : BoxNo) (x : BoxState) : Type 0 whe
 
 module _ (P : Plan) (w : World) (p : BoxNo) (known : p .0 < boxesOf P) (F : Forms P w) where
   pub list-step : (m : Move P w p) → ListStep P w p (box P w p m)
-  unfolding kept accepted committed delivered joined merged followed leading Rattle.boxes.specs.Cut.cut
+  unfolding kept accepted committed delivered joined merged followed leading cut
   list-step (m-post j) = list-same refl refl
   list-step (m-retry j) = list-same refl refl
   list-step m-stand = list-same refl refl

@@ -36,6 +36,7 @@ use Rattle.boxes.specs.NewleaderAck.{voteOf, votesWith, votesCount}
 use Rattle.boxes.specs.Merge.{merged}
 use Rattle.boxes.specs.NewState.{followed}
 use Rattle.boxes.specs.NewstateAck.{leading}
+use Rattle.boxes.specs.Cut.{cut}
 use Rattle.boxes.specs.declared.BoxState.{BoxState}
 use Rattle.boxes.specs.declared.Volatile.{Volatile}
 use Rattle.world.specs.World.{World}
@@ -63,7 +64,7 @@ data VolStep (P : Plan) (w : World) (p : BoxNo) (y : BoxState) : Type 0 where
 
 module _ (P : Plan) (w : World) (p : BoxNo) (known : p .0 < boxesOf P) (F : Forms P w) where
   vol-step : (m : Move P w p) → VolStep P w p (box P w p m)
-  unfolding kept accepted committed delivered joined merged followed leading Rattle.boxes.specs.Cut.cut
+  unfolding kept accepted committed delivered joined merged followed leading cut
   vol-step (m-post j) = vol-same refl refl
   vol-step (m-retry j) = vol-same refl refl
   vol-step m-stand = vol-same refl refl

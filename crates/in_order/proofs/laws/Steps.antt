@@ -32,6 +32,7 @@ use Rattle.boxes.specs.Merge.{merged}
 use Rattle.boxes.specs.NewState.{followed}
 use Rattle.boxes.specs.NewstateAck.{leading}
 use Rattle.boxes.specs.NewleaderAck.{newStates}
+use Rattle.boxes.specs.Cut.{cut}
 use Rattle.boxes.specs.declared.BoxState.{BoxState}
 use Rattle.world.specs.World.{World}
 use Rattle.in_order.proofs.laws.Notions.{the, rowIn, Acc, News}
@@ -166,7 +167,7 @@ module _ (P : Plan) (w : World) (p : BoxNo) (known : p .0 < boxesOf P) (F : Form
       record { from = ownOf (the w p); to = A .box; there = in-right (w .post) _ i }
 
   pub mode : (m : Move P w p) → ModeStep P w p (box P w p m)
-  unfolding kept accepted committed delivered joined merged followed leading Rattle.boxes.specs.Cut.cut
+  unfolding kept accepted committed delivered joined merged followed leading cut
   mode (m-post j) = mode-same refl refl refl
   mode (m-retry j) = mode-same refl refl refl
   mode m-stand = mode-same refl refl refl
@@ -214,7 +215,7 @@ module _ (P : Plan) (w : World) (p : BoxNo) (known : p .0 < boxesOf P) (F : Form
   commit-row a = refl
 
   pub table-step : (m : Move P w p) → TableStep P w p (box P w p m) (w .post ++ sent P w p m)
-  unfolding kept committed delivered joined followed leading rowAt Rattle.boxes.specs.Cut.cut
+  unfolding kept committed delivered joined followed leading rowAt cut
   table-step (m-post j) = still refl (omega arith) refl
   table-step (m-retry j) = still refl (omega arith) refl
   table-step m-stand = still refl (omega arith) refl

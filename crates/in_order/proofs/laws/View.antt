@@ -27,6 +27,8 @@ use Rattle.records.specs.declared.Proposal.{Proposal}
 use Rattle.records.specs.declared.Handout.{Handout}
 use Rattle.records.specs.declared.Ballotpaper.{Ballotpaper}
 use Rattle.records.specs.declared.NewState.{NewState}
+use Rattle.house.specs.declared.Order.{Order}
+use Rattle.house.specs.declared.Order.the-variants.{Post, Stand, Retry, Cut, Carry}
 use Rattle.records.specs.Rec.{newstate-ack, unknown, carried, addresseeOf}
 use Rattle.records.proofs.laws.Rec.{meaning-carried}
 use Rattle.records.specs.Rules.{rules}
@@ -43,9 +45,11 @@ use Rattle.boxes.specs.NewState.{onNewState}
 use Rattle.boxes.specs.NewstateAck.{onNewstateAck}
 use Rattle.boxes.specs.Step.{react, takes, retried, stood, cutOff}
 use Rattle.boxes.proofs.laws.Answers.{under-or, guard-does}
+use Rattle.boxes.specs.Retry.{retry}
+use Rattle.boxes.specs.Stand.{stand}
 use Rattle.boxes.specs.declared.BoxState.{BoxState}
 use Rattle.boxes.specs.declared.Delivery.{Delivery}
-use Rattle.world.specs.World.{World, Order, post, stand, retry, cut, carry, recordAt, whose, exists, acts, given, finish, step}
+use Rattle.world.specs.World.{World, recordAt, whose, exists, acts, given, finish, step}
 use Rattle.in_order.proofs.laws.Notions.{the, ballotAt}
 use Rattle.records.proofs.laws.Obeys.{valid-rules}
 use Rattle.boxes.proofs.laws.Sound.{SoundBox, sound-says}
@@ -256,22 +260,22 @@ takes-does P w r i x l d e =
 acts-does : (P : Plan) (w : World) (o : Order) → planSound P ≡ true → exists P w o ≡ true → (x : BoxState) (l : List Rec) (d : Delivery)
     → acts P w o ≡ does x l d
     → Does P w (boxNo (whose w o)) x l
-unfolding acts whose exists retried stood cutOff Rattle.boxes.specs.Retry.retry Rattle.boxes.specs.Stand.stand
-acts-does P w (post j) s v x l d e = record { known = some-box P s; move = m-post j; box-is = does-box e; sent-is = does-sent e }
-acts-does P w (stand p) s v x l d e =
+unfolding acts whose exists retried stood cutOff retry stand
+acts-does P w (Post j) s v x l d e = record { known = some-box P s; move = m-post j; box-is = does-box e; sent-is = does-sent e }
+acts-does P w (Stand p) s v x l d e =
     let g₁ = guard-does _ _ _ (simp under-or at e) in
     let g₂ = guard-does _ _ _ (g₁ .1) in
     let g₃ = guard-does _ _ _ (g₂ .1) in
     record { known = ltb-true _ _ v; move = m-stand; box-is = does-box (g₃ .1); sent-is = does-sent (g₃ .1) }
-acts-does P w (retry p j) s v x l d e =
+acts-does P w (Retry p j) s v x l d e =
     let g₁ = guard-does _ _ _ (simp under-or at e) in
     let g₂ = guard-does _ _ _ (g₁ .1) in
     let g₃ = guard-does _ _ _ (g₂ .1) in
     let g₄ = guard-does _ _ _ (g₃ .1) in
     record { known = ltb-true _ _ (and-left (ltb p (boxesOf P)) _ v); move = m-retry j; box-is = does-box (g₄ .1); sent-is = does-sent (g₄ .1) }
-acts-does P w (cut p) s v x l d e =
+acts-does P w (Cut p) s v x l d e =
     let g₁ = guard-does _ _ _ e in record { known = ltb-true _ _ v; move = m-cut; box-is = does-box (g₁ .1); sent-is = does-sent (g₁ .1) }
-acts-does P w (carry k) s v x l d e = takes-does P w (recordAt w k) (record { place = k; there = at-getD (w .post) k unknown (ltb-true _ _ v) }) x l d e
+acts-does P w (Carry k) s v x l d e = takes-does P w (recordAt w k) (record { place = k; there = at-getD (w .post) k unknown (ltb-true _ _ v) }) x l d e
 
 -- ---- the view
 

@@ -7,23 +7,24 @@ use native.Mathlib.Omega.{arith}
 use lib.ListN.{length, getD}
 use lib.Dec.{ltb}
 use borrow.Author.Tests.{ltb-true}
+use Rattle.house.specs.Limits.{mostBoxes}
 use Rattle.laws.proofs.laws.Choice.{and-left, and-right}
 use Rattle.laws.proofs.laws.Place.{at-getD, getD-at-is}
 use Rattle.house.specs.Pairs.{boxNo}
 use Rattle.house.specs.Plan.{boxesOf, isJob, planSound}
 use Rattle.house.proofs.laws.Says.{boxes-most}
 use Rattle.house.specs.declared.Plan.{Plan}
+use Rattle.house.specs.declared.Order.{Order}
+use Rattle.house.specs.declared.Order.the-variants.{Post, Stand, Retry, Cut, Carry}
 use Rattle.records.specs.Answers.{notSound, noSuch}
 use Rattle.post.specs.Posting.{startOf, toBox}
 use Rattle.post.specs.Index.{Indexed}
 use Rattle.boxes.specs.Box.{fresh}
 use Rattle.boxes.specs.Out.{Out, does, guard}
 use Rattle.boxes.specs.declared.BoxState.{BoxState}
-use Rattle.rehearsal.specs.Night.{mostBoxes, boxIn, whose, exists, acts, fitting, ifFits, given}
+use Rattle.rehearsal.specs.Night.{boxIn, whose, exists, acts, fitting, ifFits, given}
 use Rattle.rehearsal.specs.declared.Night.{Night}
-use Rattle.rehearsal.specs.declared.Order.{Order}
 use Rattle.rehearsal.specs.declared.exists.Place.{Place}
-use Rattle.rehearsal.specs.declared.Order.the-variants.{Post, Stand, Retry, Cut, Carry}
 use Rattle.rehearsal.specs.Alone.{Stands, here, actsOn, alone, Starts, Found}
 
 -- a box of a night, whichever default

@@ -4,13 +4,13 @@ use mathlib.Core.List.{List}
 use mathlib.Core.Path.{_≡_, refl, sym, ap, _∙_}
 use lib.ListN.{length}
 use Rattle.house.specs.declared.Plan.{Plan}
+use Rattle.house.specs.declared.Order.{Order}
 use Rattle.records.specs.Answers.{Answered}
 use Rattle.records.proofs.laws.Answers.{one-answer}
 use Rattle.boxes.specs.Out.{Out, refused, does, recordsOf}
 use Rattle.boxes.specs.Promise.{wasDone, numberOf}
 use Rattle.rehearsal.specs.Night.{whose, given, turnOf, postOf}
 use Rattle.rehearsal.specs.declared.Night.{Night}
-use Rattle.rehearsal.specs.declared.Order.{Order}
 use Rattle.rehearsal.specs.declared.nights.Turn.{Turn}
 use Rattle.rehearsal.specs.Promises.{NightFresh, OrderRehearsed}
 

@@ -14,6 +14,7 @@ use Rattle.laws.specs.Tray.{onto}
 use Rattle.laws.proofs.laws.Tray.{onto-nil, onto-front}
 use Rattle.house.specs.Limits.{mostPost}
 use Rattle.house.specs.declared.Plan.{Plan}
+use Rattle.house.specs.declared.Order.{Order}
 use Rattle.records.specs.Answers.{postFull}
 use Rattle.records.specs.Bytes.{encodeAll}
 use Rattle.records.specs.Rec.{Rec}
@@ -35,7 +36,6 @@ use Rattle.rehearsal.specs.Alone.{Stands, here, alone}
 use Rattle.rehearsal.proofs.laws.Alone.{alone-is, exists-is}
 use Rattle.rehearsal.specs.Steps.{stepOf, Goes}
 use Rattle.rehearsal.specs.declared.Night.{Night}
-use Rattle.rehearsal.specs.declared.Order.{Order}
 use Rattle.rehearsal.specs.declared.settling.Settled.{Settled}
 use Rattle.rehearsal.specs.Settled.{Settles}
 

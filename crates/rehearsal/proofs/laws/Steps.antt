@@ -13,6 +13,8 @@ use Rattle.house.specs.Limits.{mostJobs, leastTray}
 use Rattle.house.specs.Plan.{boxesOf, isJob, planSound}
 use Rattle.house.proofs.laws.Says.{plan-says}
 use Rattle.house.specs.declared.Plan.{Plan}
+use Rattle.house.specs.declared.Order.{Order}
+use Rattle.house.specs.declared.Order.the-variants.{Post, Stand, Retry, Cut, Carry}
 use Rattle.records.specs.Answers.{notSound, smallTray, noSuch}
 use Rattle.records.specs.Bytes.{lengthOf}
 use Rattle.records.specs.Rec.{meaning}
@@ -40,8 +42,6 @@ use Rattle.steps.specs.Judging.{Judging}
 use Rattle.steps.proofs.laws.Judging.{guard-off, receives-every}
 use Rattle.rehearsal.specs.Night.{exists, ifFits}
 use Rattle.rehearsal.specs.Alone.{here, actsOn, alone}
-use Rattle.rehearsal.specs.declared.Order.{Order}
-use Rattle.rehearsal.specs.declared.Order.the-variants.{Post, Stand, Retry, Cut, Carry}
 use Rattle.rehearsal.specs.Steps.{stepOf, Can, Goes, Judges}
 
 -- ---- refused, or not

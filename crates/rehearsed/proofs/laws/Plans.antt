@@ -6,7 +6,7 @@ use mathlib.Core.Path.{_≡_, refl, ap, _∙_}
 use native.Mathlib.Omega.{arith}
 use lib.ListN.{length}
 use Rattle.laws.proofs.laws.Choice.{pick-false, or-right, not-of}
-use Rattle.rehearsal.specs.declared.Order.{Order}
+use Rattle.house.specs.declared.Order.{Order}
 use Rattle.lines.specs.declared.Order as typed
 use Rattle.session.specs.Desk.{emptyDesk, districtsHere, jobHere}
 use Rattle.session.specs.declared.Desk.{Desk}

@@ -13,6 +13,7 @@ use Rattle.house.specs.declared.Ballot.{Ballot}
 use Rattle.house.specs.declared.BoxNo.{BoxNo}
 use Rattle.house.specs.Plan.{boxesOf, planSound}
 use Rattle.house.specs.declared.Plan.{Plan}
+use Rattle.house.specs.declared.Order.{Order}
 use Rattle.records.specs.Rec.{Rec, unknown}
 use Rattle.boxes.specs.Box.{rowAt}
 use Rattle.boxes.specs.Out.{does}
@@ -27,8 +28,7 @@ use Rattle.world.proofs.laws.Reached.{Reached, given-turned}
 use Rattle.stays_sound.proofs.laws.Sends.{every-does}
 use Rattle.rehearsal.specs.Night as Nights
 use Rattle.post.specs.Posting.{startOf}
-use Rattle.rehearsal.specs.declared.Order.{Order}
-use Rattle.rehearsed.proofs.laws.Same.{told, inside-same, box-same, whose-same}
+use Rattle.rehearsed.proofs.laws.Same.{inside-same, box-same, whose-same}
 use Rattle.rehearsed.proofs.laws.Turns.{done-exists}
 use Rattle.rehearsed.specs.Runs.{Stage, rehearsed, beginning, answered}
 use Rattle.rehearsed.proofs.laws.Runs.{isFull, kept, Beside, kept-then, step-answer, rehearsal-beside, rehearsal-reached, said-same}
@@ -76,10 +76,10 @@ module _ {P : Plan} {r : Stage} {w : World} (R : Reached P w) (S : Beside P r w)
 -- ---- DEMAND 3 holds of every rehearsal
 
 module _ (P : Plan) (sound : planSound P ≡ true) (lent : List ℕ) where
-  orders : List Order → List Worlds.Order
+  orders : List Order → List Order
   orders os = kept P (beginning lent) os
 
-  later-orders : List Order → List Order → List Worlds.Order
+  later-orders : List Order → List Order → List Order
   later-orders os later = kept P (rehearsed P (beginning lent) os) later
 
   reached-at : (os : List Order) → Reached P (run P (new P) (orders os))
@@ -105,7 +105,7 @@ module _ (P : Plan) (sound : planSound P ≡ true) (lent : List ℕ) where
 
   final-then : (os later : List Order) (m : ℕ) (s : Stamp) → FinalStamp P lent (os ++ later) m s
       → WorldWords.FinalStamp P (orders os ++ later-orders os later) m s
-  final-then os later m s f = subst (λ (x : List Worlds.Order). WorldWords.FinalStamp P x m s) (orders-then os later) (final-world (os ++ later) m s f)
+  final-then os later m s f = subst (λ (x : List Order). WorldWords.FinalStamp P x m s) (orders-then os later) (final-world (os ++ later) m s f)
 
   box-at : (os : List Order) (p : ℕ) → p < boxesOf P → boxOn (afterwards P lent os) p ≡ boxAt (run P (new P) (orders os)) p
   box-at os p l = box-same (reached-at os) (beside-at os) p l
@@ -123,7 +123,7 @@ module _ (P : Plan) (sound : planSound P ≡ true) (lent : List ℕ) where
             rw e (shows-here (reached-at os) (beside-at os) _ _ (D .list-final (orders os) p i l (rw (← e) h)));
         list-grows = λ os later p l.
             subst₂ ListBegins (sym (box-at os p l))
-            (ap (λ (x : List Worlds.Order). boxAt (run P (new P) x) p) (sym (orders-then os later)) ∙ sym (box-at (os ++ later) p l))
+            (ap (λ (x : List Order). boxAt (run P (new P) x) p) (sym (orders-then os later)) ∙ sym (box-at (os ++ later) p l))
             (D .list-grows (orders os) (later-orders os later) p l);
         list-delivers = delivers;
         handed-before = λ os later i m k p b s t h n f o.
@@ -136,11 +136,11 @@ module _ (P : Plan) (sound : planSound P ≡ true) (lent : List ℕ) where
           → Delivered (boxOn (afterwards P lent os) (Nights.whose P (afterwards P lent os .night) (afterwards P lent os .post) o)) y d
       delivers os o y l d e =
           let R = reached-at os in let S = beside-at os in let w = run P (new P) (orders os) in
-          let g : Worlds.given P w (told o) ≡ does y l d = sym (step-answer R S o (ap isFull e)) ∙ e in
-          let h = whose-same R S o (done-exists P w (told o) g) in
-          let b = every-does (given-turned R (told o)) g .low in
-          subst (λ (x : BoxState). Delivered x y d) (sym (ap (boxOn (afterwards P lent os)) h ∙ box-at os (Worlds.whose w (told o)) b))
-          (Worldwide.demand3 P sound .list-delivers (orders os) (told o) y l d g)
+          let g : Worlds.given P w o ≡ does y l d = sym (step-answer R S o (ap isFull e)) ∙ e in
+          let h = whose-same R S o (done-exists P w o g) in
+          let b = every-does (given-turned R o) g .low in
+          subst (λ (x : BoxState). Delivered x y d) (sym (ap (boxOn (afterwards P lent os)) h ∙ box-at os (Worlds.whose w o) b))
+          (Worldwide.demand3 P sound .list-delivers (orders os) o y l d g)
 
   pub one-order : OneOrder P lent
   one-order first rest second more p q run lp lq =

@@ -15,6 +15,7 @@ use Rattle.house.specs.Pairs.{boxNo}
 use Rattle.house.specs.Plan.{boxesOf, planSound}
 use Rattle.house.proofs.laws.Says.{boxes-most}
 use Rattle.house.specs.declared.Plan.{Plan}
+use Rattle.house.specs.declared.Order.{Order}
 use Rattle.records.specs.Bytes.{encodeAll, parse}
 use Rattle.records.specs.Rec.{carried, meaning}
 use Rattle.records.proofs.laws.Rec.{meaning-carried}
@@ -30,8 +31,7 @@ use Rattle.world.proofs.laws.Answers.{answers}
 use Rattle.rehearsal.specs.Night as Nights
 use Rattle.rehearsal.specs.Night.{freshNight}
 use Rattle.rehearsal.specs.declared.Night.{Night}
-use Rattle.rehearsal.specs.declared.Order.{Order}
-use Rattle.rehearsed.proofs.laws.Same.{told, Same, bytes-same}
+use Rattle.rehearsed.proofs.laws.Same.{Same, bytes-same}
 use Rattle.rehearsed.specs.Turns.{nightAfter, postAfter}
 use Rattle.rehearsed.proofs.laws.Turns.{Alike, both-refuse, both-do, full, alike}
 use Rattle.rehearsed.specs.Runs.{Stage, after, rehearsed, beginning, answered, saidAt}
@@ -41,17 +41,17 @@ abbrev pub isFull : Out → Bool
 isFull (refused k) = eqb k 12
 isFull (does x l d) = false
 
--- the orders of a rehearsal that 12 did not refuse, as the world's
-unfoldable pub kept : Plan → Stage → List Order → List Worlds.Order
+-- the orders of a rehearsal that 12 did not refuse
+unfoldable pub kept : Plan → Stage → List Order → List Order
 kept P r [] = []
-kept P r (o ∷ os) = pick (isFull (answered P r o)) (kept P (after P r o) os) (told o ∷ kept P (after P r o) os)
+kept P r (o ∷ os) = pick (isFull (answered P r o)) (kept P (after P r o) os) (o ∷ kept P (after P r o) os)
 
 -- what came of those orders, here and in a world
 unfoldable pub heard : Plan → Stage → List Order → List Out
 heard P r [] = []
 heard P r (o ∷ os) = pick (isFull (answered P r o)) (heard P (after P r o) os) (answered P r o ∷ heard P (after P r o) os)
 
-unfoldable pub worldHeard : Plan → World → List Worlds.Order → List Out
+unfoldable pub worldHeard : Plan → World → List Order → List Out
 worldHeard P w [] = []
 worldHeard P w (o ∷ os) = Worlds.given P w o ∷ worldHeard P (step P w o) os
 
@@ -70,26 +70,26 @@ module _ {P : Plan} {r : Stage} {w : World} (R : Reached P w) (S : Beside P r w)
       go : Alike P (r .night) (r .post) w o → Same P (nightAfter P (r .night) (r .post) o) (postAfter P (r .night) (r .post) o) w
       go (both-refuse a) =
           let k = a .number in
-          let h = answers R (told o) k (a .world-refuses) .high in
+          let h = answers R o k (a .world-refuses) .high in
           let q = eqb-true k 12 (ap isFull (sym (a .refuses)) ∙ e) in
           absurd (omega arith)
       go (both-do a) = never e (ap isFull (a .does-it))
       go (full a) = subst₂ (λ (n : Night) (s : List ℕ). Same P n s w) (sym (a .night)) (sym (a .post)) S
 
   -- any other order: the world's step, with the same answer
-  pub step-beside : isFull (answered P r o) ≡ false → Beside P (after P r o) (step P w (told o))
+  pub step-beside : isFull (answered P r o) ≡ false → Beside P (after P r o) (step P w o)
   unfolding after
   step-beside e = go (alike R S o)
     where
-      go : Alike P (r .night) (r .post) w o → Same P (nightAfter P (r .night) (r .post) o) (postAfter P (r .night) (r .post) o) (step P w (told o))
+      go : Alike P (r .night) (r .post) w o → Same P (nightAfter P (r .night) (r .post) o) (postAfter P (r .night) (r .post) o) (step P w o)
       go (both-refuse a) = rw (a .world) (subst₂ (λ (n : Night) (s : List ℕ). Same P n s w) (sym (a .night)) (sym (a .post)) S)
       go (both-do a) = a .same
       go (full a) = never (ap isFull (a .refuses)) e
 
-  pub step-answer : isFull (answered P r o) ≡ false → answered P r o ≡ Worlds.given P w (told o)
+  pub step-answer : isFull (answered P r o) ≡ false → answered P r o ≡ Worlds.given P w o
   step-answer e = go (alike R S o)
     where
-      go : Alike P (r .night) (r .post) w o → Nights.given P (r .night) (r .post) o ≡ Worlds.given P w (told o)
+      go : Alike P (r .night) (r .post) w o → Nights.given P (r .night) (r .post) o ≡ Worlds.given P w o
       go (both-refuse a) = a .refuses ∙ sym (a .world-refuses)
       go (both-do a) = a .does-it ∙ sym (a .world-does)
       go (full a) = never (ap isFull (a .refuses)) e
@@ -122,22 +122,22 @@ played {P} {r} {w} R S (o ∷ os) = go (look (isFull (answered P r o))) (λ v T 
     go (inl e) again =
         let p = again w R (full-beside R S o e) in
         record {
-          beside = rw (pick-true (kept P (after P r o) os) (told o ∷ kept P (after P r o) os) e) (p .beside);
+          beside = rw (pick-true (kept P (after P r o) os) (o ∷ kept P (after P r o) os) e) (p .beside);
           answers-same =
               rw (
-                pick-true (kept P (after P r o) os) (told o ∷ kept P (after P r o) os) e,
+                pick-true (kept P (after P r o) os) (o ∷ kept P (after P r o) os) e,
                 pick-true (heard P (after P r o) os) (answered P r o ∷ heard P (after P r o) os) e,
               )
               (p .answers-same);
           long = p .long ∙ after-long R S o;
         }
     go (inr e) again =
-        let p = again (step P w (told o)) (reached-step R (told o)) (step-beside R S o e) in
+        let p = again (step P w o) (reached-step R o) (step-beside R S o e) in
         record {
-          beside = rw (pick-false (kept P (after P r o) os) (told o ∷ kept P (after P r o) os) e) (p .beside);
+          beside = rw (pick-false (kept P (after P r o) os) (o ∷ kept P (after P r o) os) e) (p .beside);
           answers-same =
               rw (
-                pick-false (kept P (after P r o) os) (told o ∷ kept P (after P r o) os) e,
+                pick-false (kept P (after P r o) os) (o ∷ kept P (after P r o) os) e,
                 pick-false (heard P (after P r o) os) (answered P r o ∷ heard P (after P r o) os) e,
                 step-answer R S o e,
                 p .answers-same,
@@ -157,14 +157,14 @@ unfolding rehearsed kept pick
 kept-then P r [] later = refl
 kept-then P r (o ∷ os) later = go (isFull (answered P r o)) (kept-then P (after P r o) os later)
   where
-    rest : List Worlds.Order
+    rest : List Order
     rest = kept P (rehearsed P (after P r o) os) later
 
     go : (t : Bool) → kept P (after P r o) (os ++ later) ≡ kept P (after P r o) os ++ rest
-        → pick t (kept P (after P r o) (os ++ later)) (told o ∷ kept P (after P r o) (os ++ later))
-        ≡ pick t (kept P (after P r o) os) (told o ∷ kept P (after P r o) os) ++ rest
+        → pick t (kept P (after P r o) (os ++ later)) (o ∷ kept P (after P r o) (os ++ later))
+        ≡ pick t (kept P (after P r o) os) (o ∷ kept P (after P r o) os) ++ rest
     go true e = e
-    go false e = ap (λ (x : List Worlds.Order). told o ∷ x) e
+    go false e = ap (λ (x : List Order). o ∷ x) e
 
 -- ---- from the beginning
 

@@ -16,6 +16,8 @@ use Rattle.house.specs.Pairs.{boxNo}
 use Rattle.house.specs.Plan.{boxesOf, isJob, planSound}
 use Rattle.house.proofs.laws.Says.{some-box}
 use Rattle.house.specs.declared.Plan.{Plan}
+use Rattle.house.specs.declared.Order.{Order}
+use Rattle.house.specs.declared.Order.the-variants.{Post, Stand, Retry, Cut, Carry}
 use Rattle.records.specs.Rec.{Rec, carried, senderOf, addresseeOf}
 use Rattle.records.specs.Bytes.{encode, encodeAll}
 use Rattle.spelling.proofs.laws.Round.{parse-encode, encode-shaped}
@@ -28,25 +30,15 @@ use Rattle.boxes.specs.declared.BoxState.{BoxState}
 use Rattle.boxes.specs.declared.Delivery.the-variants.{Nothing}
 use Rattle.stays_sound.proofs.laws.Sends.{Good, Sized, arrays}
 use Rattle.world.specs.World as Worlds
-use Rattle.world.specs.World.{World, boxAt, recordAt, post, stand, retry, cut, carry}
+use Rattle.world.specs.World.{World, boxAt, recordAt}
 use Rattle.world.proofs.laws.Reached.{Reached, record-good, record-box}
 use Rattle.post.specs.Posting.{roomOf, startOf, bytesFrom, toBox}
 use Rattle.rehearsal.specs.Night as Nights
 use Rattle.rehearsal.specs.Night.{boxIn, ifFits}
 use Rattle.rehearsal.specs.declared.Night.{Night}
-use Rattle.rehearsal.specs.declared.Order.{Order}
-use Rattle.rehearsal.specs.declared.Order.the-variants.{Post, Stand, Retry, Cut, Carry}
 use Rattle.rehearsed.proofs.laws.Walk.{inside, to-is, bytes-are}
 
 -- ---- side by side
-
--- the world's order for an order that was typed
-abbrev pub told : Order → Worlds.Order
-told (Post j) = post j
-told (Stand p) = stand p
-told (Retry p j) = retry p j
-told (Cut p) = cut p
-told (Carry k) = carry k
 
 -- the plan's boxes are the world's; the used bytes are those of the world's records
 pub record Same (P : Plan) (n : Night) (s : List ℕ) (w : World) : Type 0 where
@@ -97,7 +89,7 @@ module _ {P : Plan} {n : Night} {s : List ℕ} {w : World} (R : Reached P w) (S 
   box-same p l = sym (getD-take (boxesOf P) (n .boxes) p (fresh (boxNo 0)) l) ∙ ap (λ (x : List BoxState). getD x p (fresh (boxNo 0))) (S .boxes)
 
   -- there is such a box, job or record in both
-  pub exists-same : (o : Order) → Nights.exists P n s o ≡ Worlds.exists P w (told o)
+  pub exists-same : (o : Order) → Nights.exists P n s o ≡ Worlds.exists P w o
   unfolding Nights.exists Worlds.exists
   exists-same (Post j) = refl
   exists-same (Stand p) = refl
@@ -112,7 +104,7 @@ module _ {P : Plan} {n : Night} {s : List ℕ} {w : World} (R : Reached P w) (S 
       go (inr e) = rw (inside-same k, e)
 
   -- it is the same box's order
-  pub whose-same : (o : Order) → Worlds.exists P w (told o) ≡ true → Nights.whose P n s o ≡ Worlds.whose w (told o)
+  pub whose-same : (o : Order) → Worlds.exists P w o ≡ true → Nights.whose P n s o ≡ Worlds.whose w o
   unfolding Nights.whose Worlds.whose Worlds.exists
   whose-same (Post j) e = refl
   whose-same (Stand p) e = refl
@@ -121,7 +113,7 @@ module _ {P : Plan} {n : Night} {s : List ℕ} {w : World} (R : Reached P w) (S 
   whose-same (Carry k) e = to-same k (ltb-true k (length (w .post)) e)
 
   -- and the box does the same
-  pub acts-same : (o : Order) → Worlds.exists P w (told o) ≡ true → Nights.acts P n s o ≡ Worlds.acts P w (told o)
+  pub acts-same : (o : Order) → Worlds.exists P w o ≡ true → Nights.acts P n s o ≡ Worlds.acts P w o
   unfolding Nights.acts Worlds.acts Worlds.exists Nights.whose
   acts-same (Post j) e = ap (λ (x : BoxState). does x (posts P j) Nothing) (box-same 0 (some-box P (R .plan)))
   acts-same (Stand p) e = ap (λ (x : BoxState). stood P x leastTray) (box-same p (ltb-true p (boxesOf P) e))
@@ -134,12 +126,12 @@ module _ {P : Plan} {n : Night} {s : List ℕ} {w : World} (R : Reached P w) (S 
       ∙ receives-takes P (boxAt w (addresseeOf m .0)) m (R .plan) (R .box (addresseeOf m .0) b .is-sound) (record-good R k l)
 
   -- the rehearsal is that world with refusal 12
-  pub given-same : (o : Order) → Nights.given P n s o ≡ ifFits P n s (Worlds.given P w (told o))
+  pub given-same : (o : Order) → Nights.given P n s o ≡ ifFits P n s (Worlds.given P w o)
   unfolding Nights.given Worlds.given guard
-  given-same o = go (look (Worlds.exists P w (told o)))
+  given-same o = go (look (Worlds.exists P w o))
     where
-      go : (Worlds.exists P w (told o) ≡ true) ⊎ (Worlds.exists P w (told o) ≡ false)
+      go : (Worlds.exists P w o ≡ true) ⊎ (Worlds.exists P w o ≡ false)
           → guard (planSound P) 1 (guard (Nights.exists P n s o) 11 (ifFits P n s (Nights.acts P n s o)))
-          ≡ ifFits P n s (guard (planSound P) 1 (guard (Worlds.exists P w (told o)) 11 (Worlds.acts P w (told o))))
+          ≡ ifFits P n s (guard (planSound P) 1 (guard (Worlds.exists P w o) 11 (Worlds.acts P w o)))
       go (inl e) = rw (R .plan, exists-same o, e, acts-same o e)
       go (inr e) = rw (R .plan, exists-same o, e)

@@ -7,8 +7,8 @@ use mathlib.Core.Path.{_≡_, refl, sym, ap, subst, _∙_}
 use Rattle.laws.specs.Choice.{pick}
 use Rattle.laws.proofs.laws.Choice.{and-right, look, never, or-fails, not-of}
 use Rattle.house.specs.declared.Plan.{Plan}
-use Rattle.rehearsal.specs.declared.Order.{Order}
-use Rattle.rehearsal.specs.declared.Order as ask
+use Rattle.house.specs.declared.Order.{Order}
+use Rattle.house.specs.declared.Order as ask
 use Rattle.lines.specs.declared.Order as typed
 use Rattle.session.specs.Desk.{districtsHere, jobHere, withDistricts, withJob}
 use Rattle.session.specs.declared.Desk.{Desk}

@@ -4,8 +4,8 @@ use mathlib.Core.Bool.{true}
 use mathlib.Core.List.{List, [], _∷_, _++_, append-nil}
 use mathlib.Core.Path.{_≡_, sym, ap, subst, subst₂, _∙_}
 use Rattle.house.specs.Plan.{boxesOf, planSound}
+use Rattle.house.specs.declared.Order.{Order}
 use Rattle.rehearsal.specs.Night.{boxIn}
-use Rattle.rehearsal.specs.declared.Order.{Order}
 use Rattle.lines.specs.declared.Order as typed
 use Rattle.session.specs.declared.Desk.{Desk}
 use Rattle.session.specs.Heard.{handled, obeyed}

@@ -17,6 +17,8 @@ use Rattle.laws.proofs.laws.Tray.{onto-nil, onto-length}
 use Rattle.house.specs.Limits.{mostPost}
 use Rattle.house.specs.Plan.{boxesOf}
 use Rattle.house.specs.declared.Plan.{Plan}
+use Rattle.house.specs.declared.Order.{Order}
+use Rattle.house.specs.declared.Order.the-variants.{Carry}
 use Rattle.records.specs.Rec.{Rec}
 use Rattle.records.specs.Bytes.{encodeAll}
 use Rattle.records.proofs.laws.Bytes.{encode-append}
@@ -34,9 +36,7 @@ use Rattle.post.specs.Posting.{roomOf}
 use Rattle.post.proofs.laws.Posting.{room-most}
 use Rattle.rehearsal.specs.Night.{fitting, turnOf, postOf}
 use Rattle.rehearsal.specs.declared.Night.{Night}
-use Rattle.rehearsal.specs.declared.Order.{Order}
-use Rattle.rehearsal.specs.declared.Order.the-variants.{Carry}
-use Rattle.rehearsed.proofs.laws.Same.{told, Same, whose-same, given-same}
+use Rattle.rehearsed.proofs.laws.Same.{Same, whose-same, given-same}
 use Rattle.rehearsed.specs.Turns.{nightAfter, postAfter}
 
 -- ---- the post's bytes
@@ -72,7 +72,7 @@ written-front s bs u h =
 -- ---- an outcome behind tests
 
 -- what is done exists
-pub done-exists : (P : Plan) (w : World) (o : Worlds.Order) {x : BoxState} {l : List Rec} {d : Delivery} → Worlds.given P w o ≡ does x l d
+pub done-exists : (P : Plan) (w : World) (o : Order) {x : BoxState} {l : List Rec} {d : Delivery} → Worlds.given P w o ≡ does x l d
     → Worlds.exists P w o ≡ true
 unfolding Worlds.given
 done-exists P w o e = guard-does _ _ _ (guard-does _ _ _ e .1) .0
@@ -99,7 +99,7 @@ module _ (P : Plan) (n : Night) (s : List ℕ) (o : Order) {k : ℕ} (e : Nights
   pub post-stays : postAfter P n s o ≡ s
   post-stays = ap (postOf P n s) e ∙ written-none P s (n .used)
 
-pub world-stays : (P : Plan) (w : World) (o : Worlds.Order) {k : ℕ} → Worlds.given P w o ≡ refused k → Worlds.step P w o ≡ w
+pub world-stays : (P : Plan) (w : World) (o : Order) {k : ℕ} → Worlds.given P w o ≡ refused k → Worlds.step P w o ≡ w
 unfolding Worlds.step
 world-stays P w o e = ap (Worlds.finish w (Worlds.whose w o)) e
 
@@ -125,20 +125,20 @@ module _ {P : Plan} {n : Night} {s : List ℕ} {w : World} (R : Reached P w) (S 
       }
 
   -- refused by the world, refused here, with the same number
-  pub refused-same : (o : Order) {k : ℕ} → Worlds.given P w (told o) ≡ refused k → Nights.given P n s o ≡ refused k
+  pub refused-same : (o : Order) {k : ℕ} → Worlds.given P w o ≡ refused k → Nights.given P n s o ≡ refused k
   refused-same o e = given-same R S o ∙ ap (Nights.ifFits P n s) e
 
-  module _ (o : Order) {x : BoxState} {l : List Rec} {d : Delivery} (e : Worlds.given P w (told o) ≡ does x l d) where
+  module _ (o : Order) {x : BoxState} {l : List Rec} {d : Delivery} (e : Worlds.given P w o ≡ does x l d) where
     -- done by the world and the records fit: done here, and the two stay side by side
     pub does-same : n .used + length (encodeAll P l) ≤ roomOf s → Nights.given P n s o ≡ does x l d
     does-same h = given-same R S o ∙ ap (Nights.ifFits P n s) e ∙ fits-passes P n s x l d h
 
-    pub after-same : n .used + length (encodeAll P l) ≤ roomOf s → Same P (nightAfter P n s o) (postAfter P n s o) (Worlds.step P w (told o))
+    pub after-same : n .used + length (encodeAll P l) ≤ roomOf s → Same P (nightAfter P n s o) (postAfter P n s o) (Worlds.step P w o)
     unfolding Worlds.step
     after-same h =
-        subst₃ (λ (p : ℕ) (g k : Out). Same P (turnOf P n p g .night) (postOf P n s g) (Worlds.finish w (Worlds.whose w (told o)) k))
-        (sym (whose-same R S o (done-exists P w (told o) e))) (sym (does-same h)) (sym e)
-        (same-written (Worlds.whose w (told o)) x l (every-does (given-turned R (told o)) e .low) h)
+        subst₃ (λ (p : ℕ) (g k : Out). Same P (turnOf P n p g .night) (postOf P n s g) (Worlds.finish w (Worlds.whose w o) k))
+        (sym (whose-same R S o (done-exists P w o e))) (sym (does-same h)) (sym e)
+        (same-written (Worlds.whose w o) x l (every-does (given-turned R o) e .low) h)
 
     pub after-length : n .used + length (encodeAll P l) ≤ roomOf s → length (postAfter P n s o) ≡ length s
     after-length h = ap (λ (g : Out). length (postOf P n s g)) (does-same h) ∙ (let m = room-most s in written-length s (encodeAll P l) (n .used) (omega arith))
@@ -150,21 +150,21 @@ module _ {P : Plan} {n : Night} {s : List ℕ} {w : World} (R : Reached P w) (S 
 -- the same refusal; night, post and world stay
 pub record Refused (P : Plan) (n : Night) (s : List ℕ) (w : World) (o : Order) : Type 0 where
   pub number : ℕ
-  pub world-refuses : Worlds.given P w (told o) ≡ refused number
+  pub world-refuses : Worlds.given P w o ≡ refused number
   pub refuses : Nights.given P n s o ≡ refused number
   pub night : nightAfter P n s o ≡ n
   pub post : postAfter P n s o ≡ s
-  pub world : Worlds.step P w (told o) ≡ w
+  pub world : Worlds.step P w o ≡ w
 
 -- the same box and records, which fit
 pub record Done (P : Plan) (n : Night) (s : List ℕ) (w : World) (o : Order) : Type 0 where
   pub box : BoxState
   pub sent : List Rec
   pub delivered : Delivery
-  pub world-does : Worlds.given P w (told o) ≡ does box sent delivered
+  pub world-does : Worlds.given P w o ≡ does box sent delivered
   pub room : n .used + length (encodeAll P sent) ≤ roomOf s
   pub does-it : Nights.given P n s o ≡ does box sent delivered
-  pub same : Same P (nightAfter P n s o) (postAfter P n s o) (Worlds.step P w (told o))
+  pub same : Same P (nightAfter P n s o) (postAfter P n s o) (Worlds.step P w o)
   pub long : length (postAfter P n s o) ≡ length s
 
 -- the world's records do not fit; night and post stay
@@ -172,7 +172,7 @@ pub record Full (P : Plan) (n : Night) (s : List ℕ) (w : World) (o : Order) : 
   pub box : BoxState
   pub sent : List Rec
   pub delivered : Delivery
-  pub world-does : Worlds.given P w (told o) ≡ does box sent delivered
+  pub world-does : Worlds.given P w o ≡ does box sent delivered
   pub no-room : roomOf s < n .used + length (encodeAll P sent)
   pub refuses : Nights.given P n s o ≡ refused 12
   pub night : nightAfter P n s o ≡ n
@@ -186,9 +186,9 @@ pub data Alike (P : Plan) (n : Night) (s : List ℕ) (w : World) (o : Order) : T
 module _ {P : Plan} {n : Night} {s : List ℕ} {w : World} (R : Reached P w) (S : Same P n s w) where
   -- every order is one of the three
   pub alike : (o : Order) → Alike P n s w o
-  alike o = go (Worlds.given P w (told o)) refl
+  alike o = go (Worlds.given P w o) refl
     where
-      fit : (x : BoxState) (l : List Rec) (d : Delivery) → Worlds.given P w (told o) ≡ does x l d → Dec (n .used + length (encodeAll P l) ≤ roomOf s)
+      fit : (x : BoxState) (l : List Rec) (d : Delivery) → Worlds.given P w o ≡ does x l d → Dec (n .used + length (encodeAll P l) ≤ roomOf s)
           → Alike P n s w o
       fit x l d e (yes h) =
           both-do
@@ -216,7 +216,7 @@ module _ {P : Plan} {n : Night} {s : List ℕ} {w : World} (R : Reached P w) (S 
             post = post-stays P n s o r;
           })
 
-      go : (g : Out) → Worlds.given P w (told o) ≡ g → Alike P n s w o
+      go : (g : Out) → Worlds.given P w o ≡ g → Alike P n s w o
       go (refused k) e =
           let r = refused-same R S o e in
           both-refuse
@@ -226,7 +226,7 @@ module _ {P : Plan} {n : Night} {s : List ℕ} {w : World} (R : Reached P w) (S 
             refuses = r;
             night = night-stays P n s o r;
             post = post-stays P n s o r;
-            world = world-stays P w (told o) e;
+            world = world-stays P w o e;
           })
       go (does x l d) e = fit x l d e (decLe (n .used + length (encodeAll P l)) (roomOf s))
 
@@ -237,10 +237,10 @@ module _ {P : Plan} {n : Night} {s : List ℕ} {w : World} (R : Reached P w) (S 
   refused-not e = let z : _≡_ {A = ℕ} 0 1 = cc in omega arith
 
   -- a refusal is the world's, or 12
-  pub refusal-is : (o : Order) (k : ℕ) → Nights.given P n s o ≡ refused k → (Worlds.given P w (told o) ≡ refused k) ⊎ (k ≡ 12)
+  pub refusal-is : (o : Order) (k : ℕ) → Nights.given P n s o ≡ refused k → (Worlds.given P w o ≡ refused k) ⊎ (k ≡ 12)
   refusal-is o k e = go (alike o)
     where
-      go : Alike P n s w o → (Worlds.given P w (told o) ≡ refused k) ⊎ (k ≡ 12)
+      go : Alike P n s w o → (Worlds.given P w o ≡ refused k) ⊎ (k ≡ 12)
       go (both-refuse r) = inl (r .world-refuses ∙ ap refused (refused-number (sym (r .refuses) ∙ e)))
       go (both-do r) = absurd (refused-not (sym (r .does-it) ∙ e))
       go (full r) = inr (refused-number (sym e ∙ r .refuses))
@@ -249,8 +249,8 @@ module _ {P : Plan} {n : Night} {s : List ℕ} {w : World} (R : Reached P w) (S 
   pub night-answers : (o : Order) (k : ℕ) → Nights.given P n s o ≡ refused k → (6 ≤ k) × (k ≤ 12)
   night-answers o k e = go (refusal-is o k e)
     where
-      go : (Worlds.given P w (told o) ≡ refused k) ⊎ (k ≡ 12) → (6 ≤ k) × (k ≤ 12)
-      go (inl r) = let f = answers R (told o) k r in omega arith
+      go : (Worlds.given P w o ≡ refused k) ⊎ (k ≡ 12) → (6 ≤ k) × (k ≤ 12)
+      go (inl r) = let f = answers R o k r in omega arith
       go (inr r) = omega arith
 
   -- no order answers 1
@@ -261,6 +261,6 @@ module _ {P : Plan} {n : Night} {s : List ℕ} {w : World} (R : Reached P w) (S 
   pub night-carry-never : (i k : ℕ) → Nights.given P n s (Carry i) ≡ refused k → (k ≢ 1) × (k ≢ 2) × (k ≢ 3) × (k ≢ 4) × (k ≢ 5) × (k ≢ 6)
   night-carry-never i k e = go (refusal-is (Carry i) k e)
     where
-      go : (Worlds.given P w (told (Carry i)) ≡ refused k) ⊎ (k ≡ 12) → (k ≢ 1) × (k ≢ 2) × (k ≢ 3) × (k ≢ 4) × (k ≢ 5) × (k ≢ 6)
+      go : (Worlds.given P w (Carry i) ≡ refused k) ⊎ (k ≡ 12) → (k ≢ 1) × (k ≢ 2) × (k ≢ 3) × (k ≢ 4) × (k ≢ 5) × (k ≢ 6)
       go (inl r) = let f = carry-answers R i k r in omega arith
       go (inr r) = omega arith

@@ -6,7 +6,7 @@ use Rattle.lines.specs.declared.Order as typed
 use Rattle.lines.specs.Reads.{orderWord, orderNumbers}
 use Rattle.lines.proofs.laws.Reads.{same-order}
 use Rattle.rehearsal.specs.declared.Night.{Night}
-use Rattle.rehearsal.specs.declared.Order as ask
+use Rattle.house.specs.declared.Order as ask
 use Rattle.session.specs.declared.Desk.{Desk}
 use Rattle.session.specs.Heard.{obeyed, handled}
 use Rattle.session.specs.AsTyped.{askedWord, askedNumbers, AsTyped}

@@ -9,7 +9,7 @@ use Rattle.records.specs.Bytes.{encodeAll}
 use Rattle.boxes.specs.Out.{refused}
 use Rattle.report.specs.Texts.{answerText}
 use Rattle.rehearsal.specs.declared.Night.{Night}
-use Rattle.rehearsal.specs.declared.Order.{Order}
+use Rattle.house.specs.declared.Order.{Order}
 use Rattle.rehearsal.specs.declared.nights.Turn.{Turn}
 use Rattle.rehearsal.specs.Night.{given}
 use Rattle.rehearsal.specs.Promises.{OrderRehearsed}

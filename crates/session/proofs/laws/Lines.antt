@@ -21,7 +21,7 @@ use Rattle.post.proofs.laws.Index.{indexed-first, indexed-grown}
 use Rattle.rehearsal.specs.Night.{boxIn}
 use Rattle.rehearsal.specs.Alone.{Found}
 use Rattle.rehearsal.specs.declared.Night.{Night}
-use Rattle.rehearsal.specs.declared.Order as ask
+use Rattle.house.specs.declared.Order as ask
 use Rattle.rehearsal.specs.declared.exists.Place.{Place}
 use Rattle.session.specs.declared.Desk.{Desk}
 use Rattle.session.specs.Heard.{After, handled}

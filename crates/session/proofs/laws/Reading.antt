@@ -7,6 +7,7 @@ use native.Mathlib.Omega.{arith}
 use lib.ListN.{length, getD, set, take, length-set, length-drop}
 use lib.Seq.{take-length}
 use borrow.Rule.Slice.PartMut.{midOf, putMid}
+use Rattle.house.specs.Limits.{mostBoxes}
 use Rattle.laws.proofs.laws.Choice.{pick-true, pick-false}
 use Rattle.laws.specs.Tray.{onto}
 use Rattle.laws.proofs.laws.Tray.{then, rest-of}
@@ -16,7 +17,7 @@ use Rattle.lines.specs.Feed.{Reading}
 use Rattle.lines.specs.declared.LineState.{LineState}
 use Rattle.report.specs.Texts.{answerMost}
 use Rattle.post.specs.Posting.{mostPlace}
-use Rattle.rehearsal.specs.Night.{mostBoxes, boxIn}
+use Rattle.rehearsal.specs.Night.{boxIn}
 use Rattle.rehearsal.specs.Alone.{Stands, Found, Starts}
 use Rattle.rehearsal.proofs.laws.Alone.{box-in, found-stands}
 use Rattle.rehearsal.specs.declared.Night.{Night}

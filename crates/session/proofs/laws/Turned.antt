@@ -22,7 +22,7 @@ use Rattle.lines.specs.declared.Order.{Order}
 use Rattle.rehearsal.specs.Alone.{Stands}
 use Rattle.rehearsal.specs.Steps.{stepOf, Can}
 use Rattle.rehearsal.specs.declared.Night.{Night}
-use Rattle.rehearsal.specs.declared.Order as ask
+use Rattle.house.specs.declared.Order as ask
 use Rattle.rehearsal.proofs.laws.Settled.{wrote, turned-does, turned-full, settles-front, settles-more, after-state}
 use Rattle.rehearsal.specs.declared.settling.Settled.{Settled}
 use Rattle.session.specs.declared.Desk.{Desk}

@@ -21,9 +21,10 @@ use Rattle.house.specs.declared.Ballot.{Ballot}
 use Rattle.house.specs.declared.BoxNo.{BoxNo}
 use Rattle.house.specs.Plan.{boxesOf, homeOf, names}
 use Rattle.house.specs.declared.Plan.{Plan}
+use Rattle.house.specs.declared.Order.{Order}
 use Rattle.records.specs.Rec.{Rec, multicast, accept, accept-ack, deliver, newleader, newleader-ack, new-state, newstate-ack, unknown}
 use Rattle.boxes.specs.Box.{listedAt}
-use Rattle.world.specs.World.{Order, boxAt}
+use Rattle.world.specs.World.{boxAt}
 use Rattle.in_order.specs.Words.{after, Shows, written, FinalStamp, HandsOut, HandedTo}
 use Rattle.in_order.specs.Demand3.{OneStamp, OwnStamp, ListRises, HandsInOrder}
 

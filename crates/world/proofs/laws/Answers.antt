@@ -20,13 +20,15 @@ use Rattle.records.specs.declared.Proposal.{Proposal}
 use Rattle.records.specs.declared.Handout.{Handout}
 use Rattle.records.specs.declared.Ballotpaper.{Ballotpaper}
 use Rattle.records.specs.declared.NewState.{NewState}
+use Rattle.house.specs.declared.Order.{Order}
+use Rattle.house.specs.declared.Order.the-variants.{Post, Stand, Retry, Cut, Carry}
 use Rattle.records.specs.Rec.{newstate-ack, unknown, carried, senderOf, addresseeOf}
 use Rattle.records.proofs.laws.Rec.{meaning-carried}
 use Rattle.boxes.specs.Box.{ownOf, homeIn}
 use Rattle.boxes.specs.Sound.{sound}
 use Rattle.boxes.specs.Out.{Out, refused, does, guard}
-use Rattle.boxes.specs.Retry
-use Rattle.boxes.specs.Stand
+use Rattle.boxes.specs.Retry.{retry}
+use Rattle.boxes.specs.Stand.{stand}
 use Rattle.boxes.specs.Multicast.{onMulticast}
 use Rattle.boxes.specs.Accept.{whenKept, onAccept}
 use Rattle.boxes.specs.AcceptAck.{whenMarked, onAcceptAck}
@@ -39,7 +41,7 @@ use Rattle.boxes.specs.Step.{react, takes, retried, stood, cutOff}
 use Rattle.boxes.proofs.laws.Answers.{under-or}
 use Rattle.boxes.specs.declared.BoxState.{BoxState}
 use Rattle.boxes.specs.declared.Delivery.{Delivery}
-use Rattle.world.specs.World.{World, Order, post, stand, retry, cut, carry, boxAt, recordAt, new, exists, acts, given, run}
+use Rattle.world.specs.World.{World, boxAt, recordAt, new, exists, acts, given, run}
 use Rattle.records.proofs.laws.Obeys.{Obeys}
 use Rattle.stays_sound.proofs.laws.Sends.{Good}
 use Rattle.stays_sound.proofs.laws.Goods.{good-obeys, NamedTo, named-to}
@@ -148,12 +150,12 @@ module _ (P : Plan) (x : BoxState) where
 
   -- the orders without a record, given to a sound box
   stood-late : sound P x ≡ true → Only (From 6) (stood P x leastTray)
-  unfolding stood Stand.stand
+  unfolding stood stand
   stood-late s =
       simp under-or (only-holds _ _ _ s (only-holds _ _ _ (le-leb leastTray leastTray (omega arith)) (only-test _ _ _ (omega arith) only-does)))
 
   retried-late : (j : ℕ) → sound P x ≡ true → Only (From 6) (retried P x j leastTray)
-  unfolding retried Retry.retry
+  unfolding retried retry
   retried-late j s =
       simp under-or
       (only-holds _ _ _ s
@@ -170,7 +172,7 @@ only-more (only-no {n = n} f) = let l = f .low in let h = f .high in only-no {n 
 only-more only-does = only-does
 
 module _ {P : Plan} {w : World} (R : Reached P w) where
-  carry-late : (k : ℕ) → Only (From 7) (given P w (carry k))
+  carry-late : (k : ℕ) → Only (From 7) (given P w (Carry k))
   unfolding given exists acts
   carry-late k = only-holds _ _ _ (R .plan) (only-after _ _ _ (omega arith) go)
     where
@@ -181,10 +183,10 @@ module _ {P : Plan} {w : World} (R : Reached P w) where
 
   given-late : (o : Order) → Only (From 6) (given P w o)
   unfolding given exists acts
-  given-late (post j) = only-holds _ _ _ (R .plan) (only-test _ _ _ (omega arith) only-does)
-  given-late (stand p) =
+  given-late (Post j) = only-holds _ _ _ (R .plan) (only-test _ _ _ (omega arith) only-does)
+  given-late (Stand p) =
       only-holds _ _ _ (R .plan) (only-after _ _ _ (omega arith) (λ e. stood-late P (boxAt w p) (R .box p (ltb-true p (boxesOf P) e) .is-sound)))
-  given-late (retry p j) =
+  given-late (Retry p j) =
       only-holds _ _ _ (R .plan)
       (only-after
       _
@@ -192,9 +194,9 @@ module _ {P : Plan} {w : World} (R : Reached P w) where
       _
       (omega arith)
       (λ e. retried-late P (boxAt w p) j (R .box p (ltb-true p (boxesOf P) (and-left (ltb p (boxesOf P)) (isJob P j) e)) .is-sound)))
-  given-late (cut p) =
+  given-late (Cut p) =
       only-holds _ _ _ (R .plan) (only-after _ _ _ (omega arith) (λ e. cut-late P (boxAt w p) (R .box p (ltb-true p (boxesOf P) e) .is-sound)))
-  given-late (carry k) = only-more (carry-late k)
+  given-late (Carry k) = only-more (carry-late k)
 
   -- every answer of an order is 6 to 11
   pub answers : (o : Order) (n : ℕ) → given P w o ≡ refused n → From 6 n
@@ -205,11 +207,11 @@ module _ {P : Plan} {w : World} (R : Reached P w) where
   never-one o e = let f = answers o 1 e .low in omega arith
 
   -- every answer of a carry is 7 to 11
-  pub carry-answers : (k n : ℕ) → given P w (carry k) ≡ refused n → From 7 n
+  pub carry-answers : (k n : ℕ) → given P w (Carry k) ≡ refused n → From 7 n
   carry-answers k n e = only-says (carry-late k) e
 
   -- so a record of the post is never refused as one of another plan, tray, shape, value, address or job
-  pub carry-never : (k n : ℕ) → given P w (carry k) ≡ refused n → (n ≢ 1) × (n ≢ 2) × (n ≢ 3) × (n ≢ 4) × (n ≢ 5) × (n ≢ 6)
+  pub carry-never : (k n : ℕ) → given P w (Carry k) ≡ refused n → (n ≢ 1) × (n ≢ 2) × (n ≢ 3) × (n ≢ 4) × (n ≢ 5) × (n ≢ 6)
   carry-never k n e = let f = carry-answers k n e in omega arith
 
 -- ---- under any orders
@@ -218,5 +220,5 @@ module _ (P : Plan) (sound : planSound P ≡ true) (os : List Order) where
   pub run-never-one : (o : Order) → given P (run P (new P) os) o ≢ refused 1
   run-never-one o = never-one (reached P sound os) o
 
-  pub run-carry-never : (k n : ℕ) → given P (run P (new P) os) (carry k) ≡ refused n → (n ≢ 1) × (n ≢ 2) × (n ≢ 3) × (n ≢ 4) × (n ≢ 5) × (n ≢ 6)
+  pub run-carry-never : (k n : ℕ) → given P (run P (new P) os) (Carry k) ≡ refused n → (n ≢ 1) × (n ≢ 2) × (n ≢ 3) × (n ≢ 4) × (n ≢ 5) × (n ≢ 6)
   run-carry-never k n e = carry-never (reached P sound os) k n e

@@ -18,13 +18,15 @@ use Rattle.house.specs.declared.BoxNo.{BoxNo}
 use Rattle.house.specs.Plan.{boxesOf, isJob, planSound}
 use Rattle.house.proofs.laws.Says.{some-box}
 use Rattle.house.specs.declared.Plan.{Plan}
+use Rattle.house.specs.declared.Order.{Order}
+use Rattle.house.specs.declared.Order.the-variants.{Post, Stand, Retry, Cut, Carry}
 use Rattle.records.specs.Rec.{Rec, unknown, carried, senderOf, addresseeOf}
 use Rattle.records.specs.Bytes.{encodeAll}
 use Rattle.boxes.specs.Box.{fresh, ownOf}
 use Rattle.boxes.specs.Sound.{sound}
 use Rattle.boxes.specs.Out.{Out, refused, does}
 use Rattle.boxes.specs.declared.BoxState.{BoxState}
-use Rattle.world.specs.World.{World, Order, post, stand, retry, cut, carry, new, boxAt, recordAt, whose, exists, acts, given, finish, step, run}
+use Rattle.world.specs.World.{World, new, boxAt, recordAt, whose, exists, acts, given, finish, step, run}
 use Rattle.boxes.specs.Lengths.{Lengths}
 use Rattle.stays_sound.proofs.laws.Fresh.{fresh-is-sound, fresh-lengths}
 use Rattle.stays_sound.proofs.laws.Sends.{Every, no-step, a-step, every-guard, Good}
@@ -100,20 +102,20 @@ every-turned h B (a-step K) = a-step (keeps-turned h B K)
 
 acts-turned : {P : Plan} {w : World} (R : Reached P w) (o : Order) → exists P w o ≡ true → Every (Turned P (whose w o)) (acts P w o)
 unfolding exists acts whose
-acts-turned {P} {w} R (post j) e =
+acts-turned {P} {w} R (Post j) e =
     let h = some-box P (R .plan) in
     a-step
     (record { low = h; box = R .box 0 h; good = λ m i. by-sender (posts-good P j (R .plan) .each m i); fits = let f = posts-fit P j (R .plan) in omega arith })
-acts-turned {P} {w} R (stand p) e =
+acts-turned {P} {w} R (Stand p) e =
     let h = ltb-true p (boxesOf P) e in let B = R .box p h in
     every-turned h B (stood-every P (boxAt w p) leastTray (B .lengths))
-acts-turned {P} {w} R (retry p j) e =
+acts-turned {P} {w} R (Retry p j) e =
     let h = ltb-true p (boxesOf P) (and-left (ltb p (boxesOf P)) (isJob P j) e) in let B = R .box p h in
     every-turned h B (retried-every P (boxAt w p) j leastTray (B .lengths))
-acts-turned {P} {w} R (cut p) e =
+acts-turned {P} {w} R (Cut p) e =
     let h = ltb-true p (boxesOf P) e in let B = R .box p h in
     every-turned h B (cut-off-every P (boxAt w p) (B .lengths))
-acts-turned {P} {w} R (carry k) e =
+acts-turned {P} {w} R (Carry k) e =
     let l = ltb-true k (length (w .post)) e in let m = recordAt w k in let h = record-box R k l in let B = R .box (addresseeOf m .0) h in
     every-turned h B (takes-every P (boxAt w (addresseeOf m .0)) leastTray (carried m) (B .lengths) (record-good R k l .sized))
 

@@ -1,10 +1,11 @@
 -- `closing::closing::put_boxes` meets its contract.
+use Rattle.house.specs.Limits.{mostBoxes}
 use Rattle.closing.specs.Closing.{boxReport}
 use Rattle.closing.specs.Endings.{jobsOf, shownOf}
 use Rattle.closing.specs.Ends.{AllEnded}
 use Rattle.closing.proofs.laws.Ends.{none-ended, of-boxes}
 use Rattle.closing.proofs.laws.Laws.{any-default, withBoxes}
-use Rattle.rehearsal.specs.Night.{mostBoxes, boxIn}
+use Rattle.rehearsal.specs.Night.{boxIn}
 use Rattle.boxes.specs.declared.BoxState.{BoxState}
 use Rattle.report.specs.Report.{boxText, boxMost}
 use Rattle.laws.specs.Tray.{onto, allFor}

@@ -1,4 +1,5 @@
 -- `house::marks::home_boxes` meets its contract.
+use Rattle.house.specs.Limits.{mostBoxes}
 use Rattle.house.specs.Marks.{marksOf}
 use Rattle.house.specs.Plan.{boxesOf, sameHome}
 use Rattle.house.proofs.laws.Says.{boxes-most}
@@ -12,7 +13,7 @@ use Rattle.house.proofs.marks.home_boxes.Tie as tie
 
 abbrev Inv-loop : tie.InvT-loop
 Inv-loop plan own n marks₀ p₀ marks p =
-    (p ≤ n) × (n ≡ boxesOf plan) × (n ≤ 12) × (marks ≡ marksOf (λ q. sameHome plan q own) p)
+    (p ≤ n) × (n ≡ boxesOf plan) × (n ≤ mostBoxes) × (marks ≡ marksOf (λ q. sameHome plan q own) p)
 
 abbrev μ-loop : tie.MeasureT-loop
 μ-loop plan own n marks₀ p₀ marks p = n - p

@@ -1,4 +1,5 @@
 -- `house::marks::named_boxes` meets its contract.
+use Rattle.house.specs.Limits.{mostBoxes}
 use Rattle.house.specs.Marks.{marksOf}
 use Rattle.house.specs.Plan.{boxesOf, homeOf, names}
 use Rattle.house.proofs.laws.Says.{boxes-most}
@@ -12,7 +13,7 @@ use Rattle.house.proofs.marks.named_boxes.Tie as tie
 
 abbrev Inv-loop : tie.InvT-loop
 Inv-loop plan job n marks₀ p₀ marks p =
-    (p ≤ n) × (n ≡ boxesOf plan) × (n ≤ 12) × (marks ≡ marksOf (λ q. names plan job (homeOf plan q)) p)
+    (p ≤ n) × (n ≡ boxesOf plan) × (n ≤ mostBoxes) × (marks ≡ marksOf (λ q. names plan job (homeOf plan q)) p)
 
 abbrev μ-loop : tie.MeasureT-loop
 μ-loop plan job n marks₀ p₀ marks p = n - p

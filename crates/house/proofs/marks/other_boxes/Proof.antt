@@ -1,4 +1,5 @@
 -- `house::marks::other_boxes` meets its contract.
+use Rattle.house.specs.Limits.{mostBoxes}
 use Rattle.house.specs.Marks.{marksOf}
 use Rattle.house.specs.Plan.{boxesOf, sameHome}
 use Rattle.house.proofs.laws.Says.{boxes-most}
@@ -14,7 +15,7 @@ use Rattle.house.proofs.marks.other_boxes.Tie as tie
 
 abbrev Inv-loop : tie.InvT-loop
 Inv-loop plan own n marks₀ p₀ marks p =
-    (p ≤ n) × (n ≡ boxesOf plan) × (n ≤ 12) × (marks ≡ marksOf (λ q. sameHome plan q own && not (eqb (q .0) (own .0))) p)
+    (p ≤ n) × (n ≡ boxesOf plan) × (n ≤ mostBoxes) × (marks ≡ marksOf (λ q. sameHome plan q own && not (eqb (q .0) (own .0))) p)
 
 abbrev μ-loop : tie.MeasureT-loop
 μ-loop plan own n marks₀ p₀ marks p = n - p

@@ -1,4 +1,5 @@
 -- `jobs::accept::kept_leaders` meets its contract.
+use Rattle.house.specs.Limits.{mostBoxes}
 use Rattle.house.specs.Marks.{marksOf}
 use Rattle.house.specs.Plan.{boxesOf}
 use Rattle.boxes.specs.Accept.{keptLeader}
@@ -13,7 +14,7 @@ use Rattle.jobs.proofs.accept.kept_leaders.Tie as tie
 
 abbrev Inv-loop : tie.InvT-loop
 Inv-loop plan x job n marks₀ p₀ marks p =
-    (p ≤ n) × (n ≡ boxesOf plan) × (n ≤ 12) × (marks ≡ marksOf (keptLeader plan x job) p)
+    (p ≤ n) × (n ≡ boxesOf plan) × (n ≤ mostBoxes) × (marks ≡ marksOf (keptLeader plan x job) p)
 
 abbrev μ-loop : tie.MeasureT-loop
 μ-loop plan x job n marks₀ p₀ marks p = n - p

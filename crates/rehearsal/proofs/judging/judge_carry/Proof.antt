@@ -1,6 +1,5 @@
 -- `rehearsal::judging::judge_carry` meets its contract.
 use Rattle.rehearsal.proofs.laws.Steps.{judges-no, acts-no, carry-unsound, carry-judges, carry-bytes, part-up}
-use Rattle.rehearsal.specs.declared.Order.the-variants.{Carry}
 use Rattle.steps.specs.Judging.{Judging}
 use Rattle.records.specs.Answers.{notSound}
 use Prim.Native.Nat.{ℕ, _≤_}
@@ -8,6 +7,7 @@ use lib.ListN.{length}
 use mathlib.Core.List.{List}
 use mathlib.Core.Path.{sym, subst, _∙_}
 use borrow.Author.Needs.{needs}
+use Rattle.house.specs.declared.Order.the-variants.{Carry}
 use Rattle.rehearsal.proofs.judging.judge_carry.Statement.{statement}
 use Rattle.rehearsal.proofs.judging.judge_carry.Tie as tie
 

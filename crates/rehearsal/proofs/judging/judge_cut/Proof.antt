@@ -1,10 +1,10 @@
 -- `rehearsal::judging::judge_cut` meets its contract.
 use Rattle.rehearsal.proofs.laws.Steps.{judges-no, judges-go, acts-no, goes-kept, cut-unsound, cut-acts, cut-keeps}
-use Rattle.rehearsal.specs.declared.Order.the-variants.{Cut}
 use Rattle.records.specs.Answers.{notSound}
 use Rattle.records.specs.Rec.{noRecord}
 use mathlib.Core.Path.{refl, sym, _∙_}
 use borrow.Author.Needs.{needs}
+use Rattle.house.specs.declared.Order.the-variants.{Cut}
 use Rattle.rehearsal.proofs.judging.judge_cut.Statement.{statement}
 use Rattle.rehearsal.proofs.judging.judge_cut.Tie as tie
 

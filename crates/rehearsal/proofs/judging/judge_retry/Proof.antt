@@ -1,9 +1,9 @@
 -- `rehearsal::judging::judge_retry` meets its contract.
 use Rattle.rehearsal.proofs.laws.Steps.{judges-no, acts-no, answers, retry-low, retry-unsound, retry-acts, retry-keeps}
-use Rattle.rehearsal.specs.declared.Order.the-variants.{Retry}
 use Rattle.boxes.proofs.laws.Answers.{retry-is}
 use Rattle.records.specs.Answers.{notSound}
 use mathlib.Core.Path.{refl, sym, _∙_}
+use Rattle.house.specs.declared.Order.the-variants.{Retry}
 use borrow.Author.Needs.{needs}
 use Rattle.rehearsal.proofs.judging.judge_retry.Statement.{statement}
 use Rattle.rehearsal.proofs.judging.judge_retry.Tie as tie

@@ -1,11 +1,11 @@
 -- `rehearsal::judging::judge_stand` meets its contract.
 use Rattle.rehearsal.proofs.laws.Steps.{judges-no, acts-no, answers, stand-unsound, stand-acts, stand-keeps}
-use Rattle.rehearsal.specs.declared.Order.the-variants.{Stand}
 use Rattle.boxes.proofs.laws.Answers.{stand-is}
 use Rattle.leaders.proofs.laws.Room.{stand-room}
 use Rattle.records.specs.Answers.{notSound}
 use mathlib.Core.Path.{refl, sym, _∙_}
 use borrow.Author.Needs.{needs}
+use Rattle.house.specs.declared.Order.the-variants.{Stand}
 use Rattle.rehearsal.proofs.judging.judge_stand.Statement.{statement}
 use Rattle.rehearsal.proofs.judging.judge_stand.Tie as tie
 

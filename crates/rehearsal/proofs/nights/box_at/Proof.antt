@@ -2,7 +2,7 @@
 use Prim.Native.Nat.{_<_}
 use lib.ListN.{length}
 use mathlib.Core.Path.{_≡_}
-use Rattle.rehearsal.specs.Night.{mostBoxes}
+use Rattle.house.specs.Limits.{mostBoxes}
 use Rattle.rehearsal.proofs.laws.Alone.{box-in}
 use Rattle.boxes.proofs.laws.Long.{long-map}
 use borrow.Author.Needs.{needs}

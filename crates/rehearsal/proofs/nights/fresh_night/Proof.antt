@@ -1,5 +1,6 @@
 -- `rehearsal::nights::fresh_night` meets its contract.
-use Rattle.rehearsal.specs.Night.{mostBoxes, freshNight}
+use Rattle.house.specs.Limits.{mostBoxes}
+use Rattle.rehearsal.specs.Night.{freshNight}
 use Rattle.boxes.specs.Box.{fresh}
 use Rattle.boxes.specs.declared.BoxState.{BoxState}
 use Rattle.house.specs.Pairs.{boxNo}

@@ -7,7 +7,7 @@ use native.Mathlib.Omega.{arith}
 use lib.ListN.{length, getD, length-drop}
 use Rattle.laws.specs.Tray.{onto}
 use Rattle.laws.proofs.laws.Tray.{onto-nil, rest-of, behind}
-use Rattle.house.specs.Limits.{noJob}
+use Rattle.house.specs.Limits.{mostJobs, mostBoxes, noJob}
 use Rattle.house.specs.Pairs.{noRow}
 use Rattle.house.proofs.laws.Says.{plan-says}
 use Rattle.records.specs.Bytes.{encodeAll}
@@ -24,7 +24,7 @@ use Rattle.sending.proofs.handing.hand_out.Tie as tie
 
 abbrev Inv-loop : tie.InvT-loop
 Inv-loop t₀ plan c table sent₀ used₀ records₀ n i₀ t sent used records i =
-    (i ≤ n) × (n ≤ 64) × (length t ≡ length t₀) × (records ≤ 12 * i) × (used ≤ length t₀)
+    (i ≤ n) × (n ≤ mostJobs) × (length t ≡ length t₀) × (records ≤ mostBoxes * i) × (used ≤ length t₀)
     × ((v : Volatile) → let h = handTurns plan (boxOf c v) i in (putSent (boxOf c v) sent ≡ h .box)
     × (used ≡ length (encodeAll plan (h .sent))) × (records ≡ length (h .sent)) × (t ≡ onto (encodeAll plan (h .sent)) t₀))
 

@@ -1,4 +1,5 @@
 -- `sending::sends::send` meets its contract.
+use Rattle.house.specs.Limits.{mostBoxes}
 use lib.ListN.{length-drop, length, length-append}
 use Rattle.laws.proofs.laws.Tray.{rest-of, onto-nil, for-step, for-none, for-room, behind}
 use Rattle.laws.specs.Tray.{onto, allFor}
@@ -21,7 +22,7 @@ use Rattle.sending.proofs.sends.send.Tie as tie
 
 abbrev Inv-loop : tie.InvT-loop
 Inv-loop t₀ plan meant n q₀ used₀ records₀ p₀ t q used records p =
-    (p ≤ n) × (n ≡ boxesOf plan) × (n ≤ 12) × (length t ≡ length t₀) × (length (allFor (sentTo plan meant q₀) n) ≤ length t₀)
+    (p ≤ n) × (n ≡ boxesOf plan) × (n ≤ mostBoxes) × (length t ≡ length t₀) × (length (allFor (sentTo plan meant q₀) n) ≤ length t₀)
     × (used ≡ length (allFor (sentTo plan meant q₀) p)) × (records ≡ meantBelow meant p) × (records ≤ p)
     × (t ≡ onto (allFor (sentTo plan meant q₀) p) t₀) × (used ≤ length t₀) × (q ≡ addressed q₀ (q .to))
 

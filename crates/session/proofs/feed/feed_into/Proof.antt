@@ -1,5 +1,6 @@
 -- `session::feed::feed_into` meets its contract.
 use Prim.Native.Nat.{_-_, _<_}
+use Rattle.house.specs.Limits.{mostBoxes}
 use Rattle.session.proofs.laws.Lines.{none-known}
 use Rattle.session.proofs.laws.Reading.{Reads, ends, room-now, waits, at-low, can-turn, text-low, steps, passes}
 use Rattle.post.proofs.laws.Index.{indexed-none}
@@ -10,7 +11,6 @@ use lib.ListN.{length}
 use native.Mathlib.Omega.{arith}
 use mathlib.Core.Path.{refl, sym}
 use borrow.Author.Needs.{needs}
-use Rattle.rehearsal.specs.Night.{mostBoxes}
 use Rattle.session.proofs.feed.feed_into.Statement.{statement}
 use Rattle.session.proofs.feed.feed_into.Tie as tie
 
