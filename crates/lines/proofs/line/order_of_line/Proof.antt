@@ -35,8 +35,6 @@ returns-3 c =
     let if2-left = c .if2 .left in
     let if1-left = c .before .before .if1 .left in
     let given = c .before .before .before .before .args in
-    let if2-left = if2-left in
-    let if1-left = if1-left in
     let line = given .line .now in
     let k = c .before .first-space in
     line-read line (sym (pick-false _ _ (le-ltb _ _ (if1-left)) ∙ ap orderOfWords (words-whole line (k .result) (k .ensures .1) (if2-left))))

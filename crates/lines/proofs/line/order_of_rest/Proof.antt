@@ -23,7 +23,6 @@ returns-2 c =
     let two-words-says = c .two-words .ensures in
     let if1-left = c .before .if1 .left in
     let given = c .before .before .before .before .before .args in
-    let if1-left = if1-left in
     let rest = given .rest .now in
     let k = c .before .before .first-space in
     two-words-says ∙ rw (words-whole rest (k .result) (k .ensures .1) (if1-left))

@@ -15,7 +15,6 @@ returns : tie.Need-returns
 returns c =
     let if1-taken = c .if1 .taken in
     let a = c .before .before .before .before .before .args in
-    let if1-taken = if1-taken in
     let k = c .before .first-space in
     sym
     (ap (λ (ws : List (List ℕ)). orderOfWords (a .word .now ∷ a .number .now ∷ ws)) (words-cut (a .rest .now) (k .result) (k .ensures .1) (if1-taken))
@@ -49,8 +48,6 @@ returns-2 c =
     let is-word-says = c .before .before .before .is-word .ensures in
     let is-number2-says = c .before .before .before .before .before .is-number2 .ensures in
     let at-6 = c .before .before .before .before .before .before in
-    let if2-taken = if2-taken in
-    let at-6 = at-6 in
     let is-number-says = at-6 .is-number .ensures in
     let if1-left = at-6 .before .if1 .left in
     let at-8 = at-6 .before .before in
@@ -69,9 +66,6 @@ returns-3 c =
     let is-number-says = c .before .before .before .before .is-number .ensures in
     let if1-left = c .before .before .before .before .before .if1 .left in
     let at-6 = c .before .before .before .before .before .before in
-    let if2-left = if2-left in
-    let if1-left = if1-left in
-    let at-6 = at-6 in
     let given = at-6 .before .before .before .before .args in
     let rest = given .rest .now in
     let k = at-6 .first-space in
