@@ -6,7 +6,7 @@ use lib.Dec.{eqb}
 use Rattle.laws.specs.Choice.{pick}
 use Rattle.lines.specs.Parts.{lineFeed}
 use Rattle.lines.specs.declared.LineState.{LineState}
-use Rattle.lines.specs.declared.Order.{Order}
+use Rattle.lines.specs.declared.Typed.{Typed}
 use Rattle.lines.specs.Held.{noLine, pushed, orderHeld}
 
 -- the line that is coming, and the state that the lines before it led to
@@ -23,7 +23,7 @@ unfoldable pub joined : List (List ℕ) → List ℕ
 joined [] = []
 joined (c ∷ cs) = c ++ joined cs
 
-module _ {S : Type 0} (act : S → Order → S) where
+module _ {S : Type 0} (act : S → Typed → S) where
   -- a line has ended: its order is acted on
   unfoldable pub lineEnd : Reading S → Reading S
   lineEnd r = record { line = noLine; state = act (r .state) (orderHeld (r .line)) }

@@ -5,7 +5,7 @@ use lib.ListN.{take, set, replicate}
 use lib.Dec.{ltb}
 use Rattle.laws.specs.Choice.{pick}
 use Rattle.lines.specs.declared.LineState.{LineState}
-use Rattle.lines.specs.declared.Order.{Order}
+use Rattle.lines.specs.declared.Typed.{Typed}
 use Rattle.lines.specs.Orders.{longest, orderOfLine}
 
 -- nothing has come
@@ -17,5 +17,5 @@ unfoldable pub pushed : LineState → ℕ → LineState
 pushed s b = pick (ltb longest (s .len)) s (record { len = s .len + 1; bytes = set (s .bytes) (s .len) b })
 
 -- the order of the line held
-unfoldable pub orderHeld : LineState → Order
+unfoldable pub orderHeld : LineState → Typed
 orderHeld s = orderOfLine (take (s .len) (s .bytes))

@@ -7,36 +7,37 @@ use mathlib.Core.Path.{_≡_}
 use lib.ListN.{length, take, replicate}
 use lib.Dec.{leb}
 use Rattle.laws.specs.Choice.{pick}
+use Rattle.house.specs.declared.Order.the-variants.{Post, Stand, Retry, Cut, Carry}
 use Rattle.lines.specs.Parts.{same, words}
 use Rattle.lines.specs.Numeral.{isNumber, valueOf}
 use Rattle.lines.specs.declared.LineState.{LineState}
-use Rattle.lines.specs.declared.Order.{Order}
-use Rattle.lines.specs.declared.Order.the-variants.{Districts, Job, Post, Stand, Retry, Cut, Carry, Unreadable}
+use Rattle.lines.specs.declared.Typed.{Typed}
+use Rattle.lines.specs.declared.Typed.the-variants.{Districts, Job, Given, Unreadable}
 use Rattle.lines.specs.Orders.{districts, job, post, stand, retry, cut, carry, longest}
 use Rattle.lines.specs.Held.{pushed}
 
 -- ---- an order's word and numbers
 
 -- the word that the line began with
-abbrev pub orderWord : Order → List ℕ
+abbrev pub orderWord : Typed → List ℕ
 orderWord (Districts g) = districts
 orderWord (Job mask) = job
-orderWord (Post j) = post
-orderWord (Stand b) = stand
-orderWord (Retry b j) = retry
-orderWord (Cut b) = cut
-orderWord (Carry k) = carry
+orderWord (Given (Post j)) = post
+orderWord (Given (Stand b)) = stand
+orderWord (Given (Retry b j)) = retry
+orderWord (Given (Cut b)) = cut
+orderWord (Given (Carry k)) = carry
 orderWord Unreadable = []
 
 -- the numbers behind it, as they were typed
-abbrev pub orderNumbers : Order → List ℕ
+abbrev pub orderNumbers : Typed → List ℕ
 orderNumbers (Districts g) = g ∷ []
 orderNumbers (Job mask) = mask ∷ []
-orderNumbers (Post j) = j ∷ []
-orderNumbers (Stand b) = b ∷ []
-orderNumbers (Retry b j) = b ∷ j ∷ []
-orderNumbers (Cut b) = b ∷ []
-orderNumbers (Carry k) = k ∷ []
+orderNumbers (Given (Post j)) = j ∷ []
+orderNumbers (Given (Stand b)) = b ∷ []
+orderNumbers (Given (Retry b j)) = b ∷ j ∷ []
+orderNumbers (Given (Cut b)) = b ∷ []
+orderNumbers (Given (Carry k)) = k ∷ []
 orderNumbers Unreadable = []
 
 -- ---- the lines that can be read
@@ -69,7 +70,7 @@ numbersBehind (word ∷ numbers) = map valueOf numbers
 -- ---- the promises
 
 -- `order_of_line`: the first word and the numbers behind it of a line that can be read, none of another
-pub record LineRead (line : List ℕ) (o : Order) : Type 0 where
+pub record LineRead (line : List ℕ) (o : Typed) : Type 0 where
   pub word : orderWord o ≡ pick (readable line) (firstWord (words line)) []
   pub numbers : orderNumbers o ≡ pick (readable line) (numbersBehind (words line)) []
 
@@ -84,5 +85,5 @@ pub record ByteHeld (s : LineState) (b : ℕ) (r : LineState) : Type 0 where
   pub bytes : r .bytes ≡ pushed s b .bytes
 
 -- `order_held`: the order of the bytes that have come
-abbrev pub HeldRead : LineState → Order → Type 0
+abbrev pub HeldRead : LineState → Typed → Type 0
 HeldRead s o = LineRead (take (s .len) (s .bytes)) o

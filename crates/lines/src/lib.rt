@@ -1,21 +1,19 @@
-// One line as it is typed: its words and numbers, and the order that it is.
+// One line as it is typed: its words and numbers, and the plan line or the order that it is.
 // The promises stand in specs/Reads.antt.
 mod line;
 mod words;
 
+use house::Order;
 pub use line::no_line;
 pub use line::order_held;
 pub use line::order_of_line;
 pub use line::push;
 
-pub enum Order {
+// What a line says: a plan line, an order, or a line that cannot be read.
+pub enum Typed {
     Districts(u32),
     Job(u32),
-    Post(u32),
-    Stand(u32),
-    Retry(u32, u32),
-    Cut(u32),
-    Carry(u32),
+    Given(Order),
     Unreadable,
 }
 

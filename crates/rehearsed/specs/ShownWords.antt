@@ -6,10 +6,10 @@ use Rattle.laws.specs.Choice.{pick}
 use Rattle.laws.specs.Place.{At}
 use Rattle.house.specs.declared.Plan.{Plan}
 use Rattle.house.specs.declared.Order.{Order}
-use Rattle.house.specs.declared.Order as ask
 use Rattle.rehearsal.specs.Night.{boxIn, whose, turnOf}
 use Rattle.rehearsal.specs.declared.Night.{Night}
-use Rattle.lines.specs.declared.Order as typed
+use Rattle.lines.specs.declared.Typed.{Typed}
+use Rattle.lines.specs.declared.Typed.the-variants.{Districts, Job, Given, Unreadable}
 use Rattle.session.specs.Desk.{emptyDesk, districtsHere, jobHere, withDistricts, withJob, fixedDesk}
 use Rattle.session.specs.declared.Desk.{Desk}
 use Rattle.session.specs.Heard.{turnText}
@@ -21,45 +21,37 @@ use Rattle.rehearsed.specs.Runs.{Stage, answered}
 -- ---- the plan typed
 
 -- the desk after a line: a plan line in place draws, an order fixes, an unreadable line does nothing
-unfoldable pub deskAfter : Desk → typed.Order → Desk
-deskAfter d (typed.the-variants.Districts g) = pick (districtsHere d) (withDistricts d g) d
-deskAfter d (typed.the-variants.Job m) = pick (jobHere d) (withJob d m) d
-deskAfter d (typed.the-variants.Post j) = fixedDesk d
-deskAfter d (typed.the-variants.Stand p) = fixedDesk d
-deskAfter d (typed.the-variants.Retry p j) = fixedDesk d
-deskAfter d (typed.the-variants.Cut p) = fixedDesk d
-deskAfter d (typed.the-variants.Carry k) = fixedDesk d
-deskAfter d typed.the-variants.Unreadable = d
+unfoldable pub deskAfter : Desk → Typed → Desk
+deskAfter d (Districts g) = pick (districtsHere d) (withDistricts d g) d
+deskAfter d (Job m) = pick (jobHere d) (withJob d m) d
+deskAfter d (Given o) = fixedDesk d
+deskAfter d Unreadable = d
 
-abbrev pub deskOf : List typed.Order → Desk
+abbrev pub deskOf : List Typed → Desk
 deskOf lines = foldl deskAfter emptyDesk lines
 
 -- the plan of some lines
-abbrev pub planOf : List typed.Order → Plan
+abbrev pub planOf : List Typed → Plan
 planOf lines = deskOf lines .plan
 
 -- ---- the orders typed
 
 -- the order that a line gives to the rehearsal; a plan line and an unreadable line give none
-unfoldable pub asked : typed.Order → List Order
-asked (typed.the-variants.Districts g) = []
-asked (typed.the-variants.Job m) = []
-asked (typed.the-variants.Post j) = ask.the-variants.Post j ∷ []
-asked (typed.the-variants.Stand p) = ask.the-variants.Stand p ∷ []
-asked (typed.the-variants.Retry p j) = ask.the-variants.Retry p j ∷ []
-asked (typed.the-variants.Cut p) = ask.the-variants.Cut p ∷ []
-asked (typed.the-variants.Carry k) = ask.the-variants.Carry k ∷ []
-asked typed.the-variants.Unreadable = []
+unfoldable pub asked : Typed → List Order
+asked (Districts g) = []
+asked (Job m) = []
+asked (Given o) = o ∷ []
+asked Unreadable = []
 
 -- the orders of some lines, as they were typed
-unfoldable pub askedBy : List typed.Order → List Order
+unfoldable pub askedBy : List Typed → List Order
 askedBy [] = []
 askedBy (o ∷ lines) = asked o ++ askedBy lines
 
 -- ---- the program
 
 -- the program after some lines, with a lent post of any bytes
-abbrev pub played : List ℕ → List typed.Order → World
+abbrev pub played : List ℕ → List Typed → World
 played lent lines = foldl act (firstWorld lent) lines
 
 -- its night and post

@@ -3,14 +3,15 @@ use Prim.Native.Nat.{ℕ}
 use mathlib.Core.Bool.{Bool, true, false}
 use mathlib.Core.List.{List, []}
 use Rattle.laws.specs.Choice.{pick}
+use Rattle.house.specs.declared.Order.{Order}
 use Rattle.records.specs.Answers.{unreadable}
 use Rattle.records.specs.declared.Answer.{Answer}
 use Rattle.records.specs.declared.Answer.the-variants.{Done, No}
 use Rattle.rehearsal.specs.declared.Night.{Night}
 use Rattle.rehearsal.specs.declared.nights.Turn.{Turn}
-use Rattle.house.specs.declared.Order as ask
 use Rattle.rehearsal.specs.Night.{whose, given, turnOf, postOf}
-use Rattle.lines.specs.declared.Order as typed
+use Rattle.lines.specs.declared.Typed.{Typed}
+use Rattle.lines.specs.declared.Typed.the-variants.{Districts, Job, Given, Unreadable}
 use Rattle.report.specs.Texts.{answerText}
 use Rattle.session.specs.declared.Desk.{Desk}
 use Rattle.session.specs.Desk.{districtsHere, jobHere, withDistricts, withJob, fixedDesk}
@@ -44,10 +45,10 @@ abbrev pub drawn : Bool → Desk → Desk → Night → List ℕ → After
 drawn here d next n s = record { desk = pick here next d; night = n; post = s; text = planLine here }
 
 -- an order fixes the plan, and the rehearsal carries it out or refuses it (with an unsound plan it refuses by 1)
-abbrev pub turned : Desk → Night → List ℕ → ask.Order → Turn
+abbrev pub turned : Desk → Night → List ℕ → Order → Turn
 turned d n s o = turnOf (d .plan) n (whose (d .plan) n s o) (given (d .plan) n s o)
 
-unfoldable pub obeyed : Desk → Night → List ℕ → ask.Order → After
+unfoldable pub obeyed : Desk → Night → List ℕ → Order → After
 obeyed d n s o =
     record {
       desk = fixedDesk d;
@@ -56,13 +57,9 @@ obeyed d n s o =
       text = turnText (turned d n s o .answer) (turned d n s o .records);
     }
 
--- the order of a line, as it was typed
-unfoldable pub handled : Desk → Night → List ℕ → typed.Order → After
-handled d n s (typed.the-variants.Districts g) = drawn (districtsHere d) d (withDistricts d g) n s
-handled d n s (typed.the-variants.Job m) = drawn (jobHere d) d (withJob d m) n s
-handled d n s (typed.the-variants.Post j) = obeyed d n s (ask.the-variants.Post j)
-handled d n s (typed.the-variants.Stand p) = obeyed d n s (ask.the-variants.Stand p)
-handled d n s (typed.the-variants.Retry p j) = obeyed d n s (ask.the-variants.Retry p j)
-handled d n s (typed.the-variants.Cut p) = obeyed d n s (ask.the-variants.Cut p)
-handled d n s (typed.the-variants.Carry k) = obeyed d n s (ask.the-variants.Carry k)
-handled d n s typed.the-variants.Unreadable = passed d n s
+-- a line, as it was typed
+unfoldable pub handled : Desk → Night → List ℕ → Typed → After
+handled d n s (Districts g) = drawn (districtsHere d) d (withDistricts d g) n s
+handled d n s (Job m) = drawn (jobHere d) d (withJob d m) n s
+handled d n s (Given o) = obeyed d n s o
+handled d n s Unreadable = passed d n s

@@ -6,6 +6,8 @@ use mathlib.Core.Path.{_≡_}
 use lib.ListN.{length}
 use Rattle.laws.specs.Choice.{pick}
 use Rattle.laws.specs.Tray.{onto}
+use Rattle.house.specs.declared.Order.{Order}
+use Rattle.house.specs.declared.Order.the-variants.{Post}
 use Rattle.records.specs.Answers.{postFull}
 use Rattle.records.specs.declared.Answer.the-variants.{Done, No}
 use Rattle.boxes.specs.Sound.{sound}
@@ -13,8 +15,8 @@ use Rattle.boxes.specs.declared.BoxState.{BoxState}
 use Rattle.rehearsal.specs.Alone.{Stands, alone}
 use Rattle.rehearsal.specs.Steps.{Goes}
 use Rattle.rehearsal.specs.declared.Night.{Night}
-use Rattle.house.specs.declared.Order as ask
-use Rattle.lines.specs.declared.Order as typed
+use Rattle.lines.specs.declared.Typed.{Typed}
+use Rattle.lines.specs.declared.Typed.the-variants.{Districts, Job, Given, Unreadable}
 use Rattle.report.specs.Texts.{answerText, answerMost}
 use Rattle.session.specs.declared.Desk.{Desk}
 use Rattle.session.specs.Desk.{fixedDesk}
@@ -22,27 +24,12 @@ use Rattle.boxes.specs.Out.{refused}
 use Rattle.session.specs.Heard.{turnText, obeyed, handled}
 use Rattle.session.specs.declared.hear.Heard.{Heard}
 
--- the order of a line as the rehearsal knows it; a plan line asks no box, and the first will do
-abbrev pub askOf : typed.Order → ask.Order
-askOf (typed.the-variants.Districts g) = ask.the-variants.Post 0
-askOf (typed.the-variants.Job m) = ask.the-variants.Post 0
-askOf (typed.the-variants.Post j) = ask.the-variants.Post j
-askOf (typed.the-variants.Stand p) = ask.the-variants.Stand p
-askOf (typed.the-variants.Retry p j) = ask.the-variants.Retry p j
-askOf (typed.the-variants.Cut p) = ask.the-variants.Cut p
-askOf (typed.the-variants.Carry k) = ask.the-variants.Carry k
-askOf typed.the-variants.Unreadable = ask.the-variants.Post 0
-
--- whether it is an order at all
-abbrev pub asksOf : typed.Order → Bool
-asksOf (typed.the-variants.Districts g) = false
-asksOf (typed.the-variants.Job m) = false
-asksOf (typed.the-variants.Post j) = true
-asksOf (typed.the-variants.Stand p) = true
-asksOf (typed.the-variants.Retry p j) = true
-asksOf (typed.the-variants.Cut p) = true
-asksOf (typed.the-variants.Carry k) = true
-asksOf typed.the-variants.Unreadable = false
+-- the order that a line gives; a plan line asks no box, and the first will do
+abbrev pub askOf : Typed → Order
+askOf (Districts g) = Post 0
+askOf (Job m) = Post 0
+askOf (Given o) = o
+askOf Unreadable = Post 0
 
 -- the answer to an order whose box has stepped: `ok N`, or 12
 abbrev pub settledText : Bool → ℕ → List ℕ
@@ -62,7 +49,7 @@ pub record Plain (d : Desk) (text : List ℕ) (h : Heard) (before after : List �
   pub unknown : h .known ≡ false
 
 -- an order: refused, or it goes and nothing is said yet
-pub record Obeys (d : Desk) (used : ℕ) (x : BoxState) (s : List ℕ) (o : ask.Order) (h : Heard) (before after : List ℕ) : Type 0 where
+pub record Obeys (d : Desk) (used : ℕ) (x : BoxState) (s : List ℕ) (o : Order) (h : Heard) (before after : List ℕ) : Type 0 where
   pub refuse : h .goes ≡ false → (k : ℕ) × (alone (d .plan) used x s o ≡ refused k) × Says (fixedDesk d) (answerText true k) h before after
   pub go : h .goes ≡ true → Goes (d .plan) used x s o (h .rec) × (h .text ≡ 0) × (after ≡ before)
   pub fixed : h .desk ≡ fixedDesk d
@@ -70,14 +57,14 @@ pub record Obeys (d : Desk) (used : ℕ) (x : BoxState) (s : List ℕ) (o : ask.
   pub known : h .known ≡ sound (d .plan) x
 
 -- a line
-pub record Hears (d : Desk) (used : ℕ) (x : BoxState) (s : List ℕ) (o : typed.Order) (h : Heard) (before after : List ℕ) : Type 0 where
+pub record Hears (d : Desk) (used : ℕ) (x : BoxState) (s : List ℕ) (t : Typed) (h : Heard) (before after : List ℕ) : Type 0 where
   pub most : h .text ≤ answerMost
   -- it is done with: the night and the post stay
-  pub done : h .goes ≡ false → (n : Night) (at : ℕ) → Stands (d .plan) used x s (askOf o) n at
-      → (text : List ℕ) × (handled d n s o ≡ record { desk = h .desk; night = n; post = s; text = text }) × (h .text ≡ length text) × (after ≡ onto text before)
+  pub done : h .goes ≡ false → (n : Night) (at : ℕ) → Stands (d .plan) used x s (askOf t) n at
+      → (text : List ℕ) × (handled d n s t ≡ record { desk = h .desk; night = n; post = s; text = text }) × (h .text ≡ length text) × (after ≡ onto text before)
   -- it is an order that goes
-  pub go : h .goes ≡ true → Goes (d .plan) used x s (askOf o) (h .rec) × (h .text ≡ 0) × (after ≡ before) × (h .desk ≡ fixedDesk d)
-      × ((n : Night) → handled d n s o ≡ obeyed d n s (askOf o))
+  pub go : h .goes ≡ true → Goes (d .plan) used x s (askOf t) (h .rec) × (h .text ≡ 0) × (after ≡ before) × (h .desk ≡ fixedDesk d)
+      × ((n : Night) → handled d n s t ≡ obeyed d n s (askOf t))
   -- a box known to be sound is so under a plan that is fixed
   pub known : h .known ≡ true → (h .desk .fixed ≡ true) × (sound (h .desk .plan) x ≡ true)
   -- a fixed plan stays

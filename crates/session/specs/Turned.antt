@@ -9,7 +9,7 @@ use Rattle.laws.specs.Tray.{onto}
 use Rattle.boxes.specs.Sound.{sound}
 use Rattle.boxes.specs.declared.BoxState.{BoxState}
 use Rattle.report.specs.Texts.{answerMost}
-use Rattle.lines.specs.declared.Order.{Order}
+use Rattle.lines.specs.declared.Typed.{Typed}
 use Rattle.rehearsal.specs.Alone.{Stands}
 use Rattle.rehearsal.specs.declared.Night.{Night}
 use Rattle.rehearsal.specs.Settled.{Settles}
@@ -31,12 +31,12 @@ abbrev pub boxesAfter : Turned → ℕ → List BoxState → List BoxState
 boxesAfter r at boxes = pick (r .new) (set boxes at (r .state)) boxes
 
 -- the order of a line, and the box x that it asks
-pub record Turns (desk : Desk) (used : ℕ) (x : BoxState) (post : List ℕ) (o : Order) (r : Turned) (later before after : List ℕ) : Type 0 where
+pub record Turns (desk : Desk) (used : ℕ) (x : BoxState) (post : List ℕ) (t : Typed) (r : Turned) (later before after : List ℕ) : Type 0 where
   pub most : r .text ≤ answerMost
   -- in a night in which the box stands at its place
-  pub does : (n : Night) (at : ℕ) → Stands (desk .plan) used x post (askOf o) n at
+  pub does : (n : Night) (at : ℕ) → Stands (desk .plan) used x post (askOf t) n at
       → (text : List ℕ)
-      × (handled desk n post o ≡ record { desk = r .desk; night = record { boxes = boxesAfter r at (n .boxes); used = r .used }; post = later; text = text })
+      × (handled desk n post t ≡ record { desk = r .desk; night = record { boxes = boxesAfter r at (n .boxes); used = r .used }; post = later; text = text })
       × (r .text ≡ length text) × (after ≡ onto text before)
   -- a box known to be sound is so under a plan that is fixed, and a new one stays so
   pub known : r .known ≡ true → (r .desk .fixed ≡ true) × (sound (r .desk .plan) x ≡ true)

@@ -1,9 +1,8 @@
 // What one line does before any box is asked, and what is said when one was.
 // The definitions stand in specs/Heard.antt and specs/Hears.antt.
-ghost use mathlib.Core.Bool.{true, false};
-ghost use mathlib.Core.List.{List};
+ghost use mathlib.Core.Bool.{true};
 ghost use mathlib.Core.Path.{_≡_};
-ghost use Prim.Native.Nat.{ℕ, _≤_};
+ghost use Prim.Native.Nat.{_≤_};
 ghost use lib.ListN.{length};
 ghost use Rattle.laws.specs.Choice.{pick};
 ghost use Rattle.laws.specs.Tray.{onto};
@@ -12,10 +11,12 @@ ghost use Rattle.post.specs.Posting.{mostPlace};
 ghost use Rattle.rehearsal.specs.Alone.{Starts};
 ghost use Rattle.report.specs.Texts.{answerMost};
 ghost use Rattle.session.specs.Heard.{unread, planLine};
-ghost use Rattle.session.specs.Hears.{askOf, asksOf, settledText, Plain, Obeys, Hears};
+ghost use Rattle.session.specs.Hears.{askOf, settledText, Plain, Obeys, Hears};
 use crate::Desk;
 use crate::draw;
 use boxes::BoxState;
+use house::Order;
+use lines::Typed;
 use records::Answer;
 use records::Record;
 
@@ -69,7 +70,7 @@ fn hear_order(
     known: bool,
     used: usize,
     x: BoxState,
-    order: house::Order,
+    order: Order,
     start: usize,
     post: &[u8],
     t: &mut [u8],
@@ -104,57 +105,15 @@ fn hear_order(
     }
 }
 
-// the order as the rehearsal knows it; a plan line asks no box, and the first will do
-pub fn order_of(order: lines::Order) -> house::Order
-    ensures { λ r. ⌜ r ≡ askOf order ⌝ }
+// the order that a line gives; a plan line asks no box, and the first will do
+pub fn order_of(typed: Typed) -> Order
+    ensures { λ r. ⌜ r ≡ askOf typed ⌝ }
 {
-    match order {
-        lines::Order::Districts(g) => house::Order::Post(0),
-        lines::Order::Job(m) => house::Order::Post(0),
-        lines::Order::Post(j) => house::Order::Post(j),
-        lines::Order::Stand(p) => house::Order::Stand(p),
-        lines::Order::Retry(p, j) => house::Order::Retry(p, j),
-        lines::Order::Cut(p) => house::Order::Cut(p),
-        lines::Order::Carry(k) => house::Order::Carry(k),
-        lines::Order::Unreadable => house::Order::Post(0),
-    }
-}
-
-// whether a line is an order, as far as the plan is concerned
-fn is_order(order: lines::Order) -> bool
-    ensures { λ r. ⌜ r ≡ asksOf order ⌝ }
-{
-    match order {
-        lines::Order::Districts(g) => false,
-        lines::Order::Job(m) => false,
-        lines::Order::Post(j) => true,
-        lines::Order::Stand(p) => true,
-        lines::Order::Retry(p, j) => true,
-        lines::Order::Cut(p) => true,
-        lines::Order::Carry(k) => true,
-        lines::Order::Unreadable => false,
-    }
-}
-
-// a line that is no order
-fn hear_plain(desk: Desk, order: lines::Order, t: &mut [u8]) -> Heard
-    requires { ⌜ (answerMost ≤ length (now t)) × (asksOf order ≡ false) ⌝ }
-    ensures { λ r. ⌜ ((used : ℕ) (x : BoxState) (s : List ℕ) → Hears desk used x s order r (now (t .entry)) (now (t .exit))) ⌝ }
-{
-    match order {
-        lines::Order::Districts(g) => hear_plan(
-            draw::districts_here(desk),
-            desk,
-            draw::with_districts(desk, g),
-            t,
-        ),
-        lines::Order::Job(m) => hear_plan(draw::job_here(desk), desk, draw::with_job(desk, m), t),
-        lines::Order::Unreadable => hear_unread(desk, t),
-        lines::Order::Post(j) => hear_unread(desk, t),
-        lines::Order::Stand(p) => hear_unread(desk, t),
-        lines::Order::Retry(p, j) => hear_unread(desk, t),
-        lines::Order::Cut(p) => hear_unread(desk, t),
-        lines::Order::Carry(k) => hear_unread(desk, t),
+    match typed {
+        Typed::Districts(g) => Order::Post(0),
+        Typed::Job(m) => Order::Post(0),
+        Typed::Given(o) => o,
+        Typed::Unreadable => Order::Post(0),
     }
 }
 
@@ -164,18 +123,25 @@ pub fn hear(
     known: bool,
     used: usize,
     x: BoxState,
-    order: lines::Order,
+    typed: Typed,
     start: usize,
     post: &[u8],
     t: &mut [u8],
 ) -> Heard
-    requires { ⌜ (answerMost ≤ length (now t)) × (known ≡ true → sound (desk .plan) x ≡ true) × (start ≤ mostPlace) × Starts (desk .plan) (now post) used (askOf order) start ⌝ }
-    ensures { λ r. ⌜ Hears desk used x (now (post .entry)) order r (now (t .entry)) (now (t .exit)) ⌝ }
+    requires { ⌜ (answerMost ≤ length (now t)) × (known ≡ true → sound (desk .plan) x ≡ true) × (start ≤ mostPlace) × Starts (desk .plan) (now post) used (askOf typed) start ⌝ }
+    ensures { λ r. ⌜ Hears desk used x (now (post .entry)) typed r (now (t .entry)) (now (t .exit)) ⌝ }
 {
-    if is_order(order) {
-        return hear_order(desk, known, used, x, order_of(order), start, post, t);
+    match typed {
+        Typed::Districts(g) => hear_plan(
+            draw::districts_here(desk),
+            desk,
+            draw::with_districts(desk, g),
+            t,
+        ),
+        Typed::Job(m) => hear_plan(draw::job_here(desk), desk, draw::with_job(desk, m), t),
+        Typed::Given(o) => hear_order(desk, known, used, x, o, start, post, t),
+        Typed::Unreadable => hear_unread(desk, t),
     }
-    hear_plain(desk, order, t)
 }
 
 // the answer to an order whose box has stepped

@@ -19,6 +19,7 @@ use crate::Desk;
 use crate::hear;
 use boxes::BoxState;
 use lines::LineState;
+use lines::Typed;
 
 // the line after some bytes, and the place of the LF that ends it, or the end of the bytes
 struct Scan {
@@ -30,7 +31,7 @@ struct Scan {
 // its box, where the record begins that it carries; how far the index goes
 pub struct Asked {
     pub line: LineState,
-    pub typed: lines::Order,
+    pub typed: Typed,
     pub next: usize,
     pub at: usize,
     pub start: usize,
@@ -143,7 +144,7 @@ pub fn turn(
     sure: bool,
     used: usize,
     x: BoxState,
-    typed: lines::Order,
+    typed: Typed,
     start: usize,
     post: &mut [u8],
     t: &mut [u8],

@@ -9,13 +9,13 @@ use Rattle.laws.proofs.laws.Choice.{pick-true, pick-false}
 use Rattle.lines.specs.Parts.{lineFeed, every}
 use Rattle.lines.proofs.laws.Parts.{without}
 use Rattle.lines.proofs.laws.PartLaws.{without-on}
-use Rattle.lines.specs.declared.Order.{Order}
+use Rattle.lines.specs.declared.Typed.{Typed}
 use Rattle.lines.specs.Orders.{orderOfLine, ordersOf}
 use Rattle.lines.proofs.laws.OrderLaws.{orders-none, orders-lf, orders-last}
 use Rattle.lines.proofs.laws.Held.{held, held-none, held-some, held-push, held-order}
 use Rattle.lines.specs.Feed.{Reading, start, joined, lineEnd, byteRead, allRead, inputEnd}
 
-module _ {S : Type 0} (act : S → Order → S) where
+module _ {S : Type 0} (act : S → Typed → S) where
   -- p of a line is read, and the lines before it led to s
   abbrev pub within : List ℕ → S → Reading S
   within p s = record { line = held p; state = s }

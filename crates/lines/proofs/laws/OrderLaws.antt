@@ -11,9 +11,10 @@ use native.Mathlib.Omega.{arith}
 use lib.ListN.{length, length-append}
 use borrow.Author.Tests.{le-ltb}
 use Rattle.laws.proofs.laws.Choice.{pick-true, pick-false, and-both}
+use Rattle.house.specs.declared.Order.the-variants.{Retry}
 use Rattle.lines.specs.Numeral.{isNumber, valueOf}
 use Rattle.lines.proofs.laws.NumeralLaws.{number-solid, number-nine}
-use Rattle.lines.specs.declared.Order.the-variants.{Retry, Unreadable}
+use Rattle.lines.specs.declared.Typed.the-variants.{Given, Unreadable}
 
 -- an empty input has no line
 pub orders-none : ordersOf [] ≡ []
@@ -54,7 +55,8 @@ one-line word n w h k =
     split-line word n w (rw length-append (omega arith)) ∙ rw (number-word n k) (pick-true _ _ k)
 
 -- `retry` and two numbers, parted by one space each
-pub retry-line : (b j : List ℕ) → isNumber b ≡ true → isNumber j ≡ true → orderOfLine ((retry ++ (space ∷ b)) ++ (space ∷ j)) ≡ Retry (valueOf b) (valueOf j)
+pub retry-line : (b j : List ℕ) → isNumber b ≡ true → isNumber j ≡ true
+    → orderOfLine ((retry ++ (space ∷ b)) ++ (space ∷ j)) ≡ Given (Retry (valueOf b) (valueOf j))
 unfolding orderOfWords every
 retry-line b j p q =
     let m = number-nine b p in

@@ -9,19 +9,20 @@ use lib.Dec.{ltb, leb}
 use borrow.Author.Tests.{lt-ltb, ltb-true, ltb-false, le-leb, lt-leb}
 use Rattle.laws.specs.Choice.{pick}
 use Rattle.laws.proofs.laws.Choice.{pick-true}
+use Rattle.house.specs.declared.Order.the-variants.{Retry}
 use Rattle.lines.specs.Parts.{same, words}
 use Rattle.lines.proofs.laws.PartLaws.{same-eq}
 use Rattle.lines.specs.Numeral.{isNumber, valueOf}
 use Rattle.lines.specs.declared.LineState.{LineState}
-use Rattle.lines.specs.declared.Order.{Order}
-use Rattle.lines.specs.declared.Order.the-variants.{Retry, Unreadable}
+use Rattle.lines.specs.declared.Typed.{Typed}
+use Rattle.lines.specs.declared.Typed.the-variants.{Given, Unreadable}
 use Rattle.lines.specs.Orders.{districts, job, post, stand, retry, cut, carry, longest, oneNumber, orderOfWords, orderOfLine}
 use Rattle.lines.specs.Held.{noLine, pushed, orderHeld}
 use Rattle.lines.specs.Reads.{orderWord, orderNumbers, among, areOrder, readable, firstWord, numbersBehind, LineRead, NothingHeld, ByteHeld, HeldRead}
 use Rattle.lines.proofs.laws.Reads.{only-order, only-nothing, only-byte}
 
 -- an order has this word and these numbers if the test holds, none if it fails
-abbrev Says : Order → Bool → List ℕ → List ℕ → Type 0
+abbrev Says : Typed → Bool → List ℕ → List ℕ → Type 0
 Says o t word numbers = (orderWord o ≡ pick t word []) × (orderNumbers o ≡ pick t numbers [])
 
 -- a word and one number
@@ -40,7 +41,7 @@ one-says w n =
     go false false false false false true h1 h2 h3 h4 h5 h6 = rw (h1, h2, h3, h4, h5, h6) (sym (same-eq w carry h6), refl)
     go false false false false false false h1 h2 h3 h4 h5 h6 = rw (h1, h2, h3, h4, h5, h6) (refl, refl)
 
-both : (t u : Bool) (o : Order) (w n : List ℕ) → Says o t w n → Says (pick u o Unreadable) (t && u) w n
+both : (t u : Bool) (o : Typed) (w n : List ℕ) → Says o t w n → Says (pick u o Unreadable) (t && u) w n
 unfolding pick
 both true true o w n h = h
 both true false o w n h = (refl, refl)
@@ -56,7 +57,7 @@ words-say (w ∷ n ∷ []) =
     both (among w (districts ∷ job ∷ post ∷ stand ∷ cut ∷ carry ∷ [])) (isNumber n) (oneNumber w (valueOf n)) w (valueOf n ∷ []) (one-says w (valueOf n))
 words-say (w ∷ b ∷ j ∷ []) = go (same w retry) (isNumber b && isNumber j) refl
   where
-    go : (t u : Bool) → same w retry ≡ t → Says (pick (t && u) (Retry (valueOf b) (valueOf j)) Unreadable) (t && u) w (valueOf b ∷ valueOf j ∷ [])
+    go : (t u : Bool) → same w retry ≡ t → Says (pick (t && u) (Given (Retry (valueOf b) (valueOf j))) Unreadable) (t && u) w (valueOf b ∷ valueOf j ∷ [])
     go true true e = (sym (same-eq w retry e), refl)
     go true false e = (refl, refl)
     go false u e = (refl, refl)
@@ -77,11 +78,11 @@ line-says line = go (ltb longest (length line)) refl
     go false e = rw (le-leb (length line) longest (ltb-false longest (length line) e)) (words-say (words line))
 
 -- the definition keeps the promise
-pub line-read : (line : List ℕ) {o : Order} → o ≡ orderOfLine line → LineRead line o
+pub line-read : (line : List ℕ) {o : Typed} → o ≡ orderOfLine line → LineRead line o
 line-read line e = let s = line-says line in record { word = ap orderWord e ∙ s .0; numbers = ap orderNumbers e ∙ s .1 }
 
 -- and nothing else does
-pub read-line : (line : List ℕ) {o : Order} → LineRead line o → o ≡ orderOfLine line
+pub read-line : (line : List ℕ) {o : Typed} → LineRead line o → o ≡ orderOfLine line
 read-line line r = only-order r (line-read line refl)
 
 -- a line of which more bytes have come than a line may have
@@ -90,7 +91,7 @@ unfolding orderOfLine
 long-read s h = line-read (take (s .len) (s .bytes)) (sym (pick-true _ _ (lt-ltb longest (length (take (s .len) (s .bytes))) h)))
 
 -- the order held, nothing held and a byte more held, as the one value that the promise allows
-pub held-is : (s : LineState) {o : Order} → HeldRead s o → o ≡ orderHeld s
+pub held-is : (s : LineState) {o : Typed} → HeldRead s o → o ≡ orderHeld s
 unfolding orderHeld
 held-is s r = read-line (take (s .len) (s .bytes)) r
 

@@ -8,8 +8,8 @@ use Rattle.laws.specs.Choice.{pick}
 use Rattle.laws.proofs.laws.Choice.{and-right, look, never, or-fails, not-of}
 use Rattle.house.specs.declared.Plan.{Plan}
 use Rattle.house.specs.declared.Order.{Order}
-use Rattle.house.specs.declared.Order as ask
-use Rattle.lines.specs.declared.Order as typed
+use Rattle.lines.specs.declared.Typed.{Typed}
+use Rattle.lines.specs.declared.Typed.the-variants.{Districts, Job, Given, Unreadable}
 use Rattle.session.specs.Desk.{districtsHere, jobHere, withDistricts, withJob}
 use Rattle.session.specs.declared.Desk.{Desk}
 use Rattle.session.specs.Heard.{handled, obeyed, drawn}
@@ -61,31 +61,27 @@ module _ {lent : List ℕ} {done : List Order} {w : World} (K : Keeps lent done 
   keeps-plan false next f = keeps-nil (record { stage = K .stage; none = K .none })
 
   -- any line; an unreadable one changes nothing
-  keeps-act : (o : typed.Order) → Keeps lent (done ++ asked o) (act w o)
+  keeps-act : (o : Typed) → Keeps lent (done ++ asked o) (act w o)
   unfolding act handled asked districtsHere jobHere
-  keeps-act (typed.the-variants.Districts g) =
+  keeps-act (Districts g) =
       keeps-plan (districtsHere (w .desk)) (withDistricts (w .desk) g) (λ e. or-fails (w .desk .drawn) (w .desk .fixed) (off e) .1)
-  keeps-act (typed.the-variants.Job m) = keeps-plan (jobHere (w .desk)) (withJob (w .desk) m) (λ e. off (and-right (w .desk .drawn) (not (w .desk .fixed)) e))
-  keeps-act (typed.the-variants.Post j) = keeps-order (ask.the-variants.Post j)
-  keeps-act (typed.the-variants.Stand p) = keeps-order (ask.the-variants.Stand p)
-  keeps-act (typed.the-variants.Retry p j) = keeps-order (ask.the-variants.Retry p j)
-  keeps-act (typed.the-variants.Cut p) = keeps-order (ask.the-variants.Cut p)
-  keeps-act (typed.the-variants.Carry k) = keeps-order (ask.the-variants.Carry k)
-  keeps-act typed.the-variants.Unreadable = keeps-nil (record { stage = K .stage; none = K .none })
+  keeps-act (Job m) = keeps-plan (jobHere (w .desk)) (withJob (w .desk) m) (λ e. off (and-right (w .desk .drawn) (not (w .desk .fixed)) e))
+  keeps-act (Given o) = keeps-order o
+  keeps-act Unreadable = keeps-nil (record { stage = K .stage; none = K .none })
 
-keeps-all : {lent : List ℕ} {done : List Order} {w : World} → Keeps lent done w → (lines : List typed.Order)
+keeps-all : {lent : List ℕ} {done : List Order} {w : World} → Keeps lent done w → (lines : List Typed)
     → Keeps lent (done ++ askedBy lines) (foldl act w lines)
 unfolding askedBy
 keeps-all K [] = keeps-nil K
 keeps-all {lent} {done} {w} K (o ∷ lines) =
     subst (λ (l : List Order). Keeps lent l (foldl act (act w o) lines)) (append-assoc done (asked o) (askedBy lines)) (keeps-all (keeps-act K o) lines)
 
-keeps-played : (lent : List ℕ) (lines : List typed.Order) → Keeps lent (askedBy lines) (played lent lines)
+keeps-played : (lent : List ℕ) (lines : List Typed) → Keeps lent (askedBy lines) (played lent lines)
 unfolding rehearsed beginning
 keeps-played lent lines = keeps-all {done = []} {w = firstWorld lent} (record { stage = refl; none = λ _. refl }) lines
 
 -- the orders of lines one behind the other
-pub asked-both : (a b : List typed.Order) → askedBy (a ++ b) ≡ askedBy a ++ askedBy b
+pub asked-both : (a b : List Typed) → askedBy (a ++ b) ≡ askedBy a ++ askedBy b
 unfolding askedBy
 asked-both [] b = refl
 asked-both (o ∷ a) b = ap (λ (l : List Order). asked o ++ l) (asked-both a b) ∙ sym (append-assoc (asked o) (askedBy a) (askedBy b))
@@ -96,7 +92,7 @@ unfolding rehearsed
 any-plan P Q lent os e = rw e
 
 -- at every moment of a session
-pub session : (lent : List ℕ) (first rest : List typed.Order) → stageOf (played lent first) ≡ afterwards (planOf (first ++ rest)) lent (askedBy first)
+pub session : (lent : List ℕ) (first rest : List Typed) → stageOf (played lent first) ≡ afterwards (planOf (first ++ rest)) lent (askedBy first)
 session lent first rest = go (look (deskOf first .fixed))
   where
     K : Keeps lent (askedBy first) (played lent first)

@@ -6,7 +6,8 @@ use mathlib.Core.Path.{_≡_, sym, ap, subst, subst₂, _∙_}
 use Rattle.house.specs.Plan.{boxesOf, planSound}
 use Rattle.house.specs.declared.Order.{Order}
 use Rattle.rehearsal.specs.Night.{boxIn}
-use Rattle.lines.specs.declared.Order as typed
+use Rattle.lines.specs.declared.Typed.{Typed}
+use Rattle.lines.specs.declared.Typed.the-variants.{Given}
 use Rattle.session.specs.declared.Desk.{Desk}
 use Rattle.session.specs.Heard.{handled, obeyed}
 use Rattle.session.specs.World.{World, act}
@@ -15,33 +16,21 @@ use Rattle.rehearsed.specs.Runs.{Stage}
 use Rattle.in_order.specs.Words.{SameOrder}
 use Rattle.rehearsed.specs.Words.{afterwards}
 use Rattle.rehearsed.proofs.laws.Proved as Rehearsals
-use Rattle.rehearsed.specs.ShownWords.{planOf, asked, askedBy, played, stageOf, answerShown, jobsShown, InOneOrder}
+use Rattle.rehearsed.specs.ShownWords.{planOf, askedBy, played, stageOf, answerShown, jobsShown, InOneOrder}
 use Rattle.rehearsed.specs.Shown.{linesIn, planIn, IsRehearsal, Shown}
-use Rattle.rehearsed.proofs.laws.Plans.{desk-played, no-order, plan-before}
+use Rattle.rehearsed.proofs.laws.Plans.{desk-played, plan-before}
 use Rattle.rehearsed.proofs.laws.Sessions.{asked-both, session}
 use Rattle.rehearsed.proofs.laws.Lists.{same-shown}
 
--- the answer to the order that a line gives
-asked-same : (w : World) {a b : Order} → b ∷ [] ≡ a ∷ []
-    → w .text ++ answerShown (w .desk .plan) (stageOf w) b ≡ w .text ++ answerShown (w .desk .plan) (stageOf w) a
-asked-same w {a} {b} e = let same : b ≡ a = cc in rw same
-
 -- an order prints its answer under the plan of that moment
-text-act : (w : World) (o : typed.Order) (a : Order) → asked o ≡ a ∷ [] → act w o .text ≡ w .text ++ answerShown (w .desk .plan) (stageOf w) a
-unfolding act handled obeyed asked answerShown
-text-act w (typed.the-variants.Districts g) a e = absurd (no-order e)
-text-act w (typed.the-variants.Job m) a e = absurd (no-order e)
-text-act w (typed.the-variants.Post j) a e = asked-same w e
-text-act w (typed.the-variants.Stand p) a e = asked-same w e
-text-act w (typed.the-variants.Retry p j) a e = asked-same w e
-text-act w (typed.the-variants.Cut p) a e = asked-same w e
-text-act w (typed.the-variants.Carry k) a e = asked-same w e
-text-act w typed.the-variants.Unreadable a e = absurd (no-order e)
+text-act : (w : World) (o : Order) → act w (Given o) .text ≡ w .text ++ answerShown (w .desk .plan) (stageOf w) o
+unfolding act handled obeyed answerShown
+text-act w o = refl
 
 module _ (lent : List ℕ) (chunks : List (List ℕ)) where
-  moments : (first rest : List typed.Order) → linesIn chunks ≡ first ++ rest → stageOf (played lent first) ≡ afterwards (planIn chunks) lent (askedBy first)
+  moments : (first rest : List Typed) → linesIn chunks ≡ first ++ rest → stageOf (played lent first) ≡ afterwards (planIn chunks) lent (askedBy first)
   moments first rest e =
-      subst (λ (l : List typed.Order). stageOf (played lent first) ≡ afterwards (planOf l) lent (askedBy first)) (sym e) (session lent first rest)
+      subst (λ (l : List Typed). stageOf (played lent first) ≡ afterwards (planOf l) lent (askedBy first)) (sym e) (session lent first rest)
 
   -- whatever is typed
   pub is-rehearsal : IsRehearsal lent chunks
@@ -53,12 +42,12 @@ module _ (lent : List ℕ) (chunks : List (List ℕ)) where
         answer = answers;
       }
     where
-      answers : (first rest : List typed.Order) (o : typed.Order) (a : Order) → linesIn chunks ≡ first ++ (o ∷ rest) → asked o ≡ a ∷ []
-          → act (played lent first) o .text ≡ played lent first .text ++ answerShown (planIn chunks) (afterwards (planIn chunks) lent (askedBy first)) a
-      answers first rest o a e h =
-          let P = ap (λ (d : Desk). d .plan) (desk-played lent first) ∙ sym (ap planOf e ∙ plan-before first o rest a h) in
-          let Q = moments first (o ∷ rest) e in
-          text-act (played lent first) o a h ∙ (λ i. played lent first .text ++ answerShown (P i) (Q i) a)
+      answers : (first rest : List Typed) (o : Order) → linesIn chunks ≡ first ++ (Given o ∷ rest)
+          → act (played lent first) (Given o) .text ≡ played lent first .text ++ answerShown (planIn chunks) (afterwards (planIn chunks) lent (askedBy first)) o
+      answers first rest o e =
+          let P = ap (λ (d : Desk). d .plan) (desk-played lent first) ∙ sym (ap planOf e ∙ plan-before first o rest) in
+          let Q = moments first (Given o ∷ rest) e in
+          text-act (played lent first) o ∙ (λ i. played lent first .text ++ answerShown (P i) (Q i) o)
 
   -- whatever is typed, if its plan is sound
   pub shown : planSound (planIn chunks) ≡ true → Shown lent chunks
@@ -72,7 +61,7 @@ module _ (lent : List ℕ) (chunks : List (List ℕ)) where
             rw (whole lent chunks) (pairs (linesIn chunks) [] (linesIn chunks) [] p q all all lp lq);
       }
     where
-      pairs : (first rest second more : List typed.Order) (p q : ℕ) → linesIn chunks ≡ first ++ rest → linesIn chunks ≡ second ++ more
+      pairs : (first rest second more : List Typed) (p q : ℕ) → linesIn chunks ≡ first ++ rest → linesIn chunks ≡ second ++ more
           → p < boxesOf (planIn chunks) → q < boxesOf (planIn chunks)
           → InOneOrder (jobsShown (played lent first .night) p) (jobsShown (played lent second .night) q)
       pairs first rest second more p q e f lp lq =

@@ -11,7 +11,7 @@ use Rattle.lines.specs.Parts.{lineFeed}
 use Rattle.lines.specs.Held.{noLine, pushed, orderHeld}
 use Rattle.lines.specs.Feed.{Reading, lineEnd, byteRead, allRead}
 use Rattle.lines.specs.declared.LineState.{LineState}
-use Rattle.lines.specs.declared.Order.{Order}
+use Rattle.lines.specs.declared.Typed.{Typed}
 use Rattle.session.specs.World.{World, act}
 
 -- ---- laws
@@ -27,10 +27,10 @@ pub byte-ends : (r : Reading World) → byteRead act r lineFeed ≡ lineEnd act 
 unfolding byteRead
 byte-ends r = pick-true _ _ refl
 
-line-acts : (whole : LineState) (w : World) (o : Order) → o ≡ orderHeld whole
-    → lineEnd act (record { line = whole; state = w }) ≡ record { line = noLine; state = act w o }
+line-acts : (whole : LineState) (w : World) (t : Typed) → t ≡ orderHeld whole
+    → lineEnd act (record { line = whole; state = w }) ≡ record { line = noLine; state = act w t }
 unfolding lineEnd
-line-acts whole w o e = rw e
+line-acts whole w t e = rw e
 
 module _ (q : Reading World) (chunk : List ℕ) where
   -- a byte that is no LF
@@ -43,12 +43,12 @@ module _ (q : Reading World) (chunk : List ℕ) where
       ∙ ap (λ (z : Reading World). record { line = pushed (z .line) (getD chunk i 0); state = z .state }) e
 
   -- the LF that ends a line: its order is acted on
-  pub line-turn : (from end : ℕ) (whole : LineState) (o : Order) → end < length chunk → getD chunk end 0 ≡ lineFeed
-      → allRead act q (take end chunk) ≡ record { line = whole; state = allRead act q (take from chunk) .state } → o ≡ orderHeld whole
-      → allRead act q (take (end + 1) chunk) ≡ record { line = noLine; state = act (allRead act q (take from chunk) .state) o }
-  line-turn from end whole o h lf e eo =
+  pub line-turn : (from end : ℕ) (whole : LineState) (t : Typed) → end < length chunk → getD chunk end 0 ≡ lineFeed
+      → allRead act q (take end chunk) ≡ record { line = whole; state = allRead act q (take from chunk) .state } → t ≡ orderHeld whole
+      → allRead act q (take (end + 1) chunk) ≡ record { line = noLine; state = act (allRead act q (take from chunk) .state) t }
+  line-turn from end whole t h lf e is =
       sym (over-step (byteRead act) q chunk end h)
       ∙ ap (byteRead act (allRead act q (take end chunk))) lf
       ∙ ap (λ (z : Reading World). byteRead act z lineFeed) e
       ∙ byte-ends (record { line = whole; state = allRead act q (take from chunk) .state })
-      ∙ line-acts whole (allRead act q (take from chunk) .state) o eo
+      ∙ line-acts whole (allRead act q (take from chunk) .state) t is

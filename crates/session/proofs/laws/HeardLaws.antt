@@ -5,11 +5,11 @@ use mathlib.Core.List.{List}
 use mathlib.Core.Path.{_≡_, sym, ap, _∙_}
 use lib.ListN.{take-append-drop}
 use Rattle.laws.specs.Tray.{onto}
+use Rattle.house.specs.declared.Order.{Order}
 use Rattle.records.specs.Bytes.{encodeAll}
 use Rattle.boxes.specs.Out.{refused}
 use Rattle.report.specs.Texts.{answerText}
 use Rattle.rehearsal.specs.declared.Night.{Night}
-use Rattle.house.specs.declared.Order.{Order}
 use Rattle.rehearsal.specs.declared.nights.Turn.{Turn}
 use Rattle.rehearsal.specs.Night.{given}
 use Rattle.rehearsal.specs.Promises.{OrderRehearsed}

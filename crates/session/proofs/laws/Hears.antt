@@ -5,29 +5,19 @@ use mathlib.Core.List.{List}
 use mathlib.Core.Path.{_≡_, refl, sym, ap, _∙_}
 use Rattle.laws.specs.Choice.{pick}
 use Rattle.laws.proofs.laws.Choice.{never}
+use Rattle.house.specs.declared.Order.{Order}
 use Rattle.boxes.specs.declared.BoxState.{BoxState}
 use Rattle.rehearsal.proofs.laws.Alone.{alone-is}
 use Rattle.rehearsal.specs.declared.Night.{Night}
-use Rattle.lines.specs.declared.Order as typed
+use Rattle.lines.specs.declared.Typed.{Typed}
+use Rattle.lines.specs.declared.Typed.the-variants.{Given}
 use Rattle.report.specs.Texts.{answerText}
 use Rattle.session.specs.declared.Desk.{Desk}
 use Rattle.session.specs.Desk.{districtsHere, jobHere, fixedDesk}
-use Rattle.session.specs.Heard.{obeyed, handled}
+use Rattle.session.specs.Heard.{handled}
 use Rattle.session.proofs.laws.HeardLaws.{refused-leaves}
 use Rattle.session.specs.declared.hear.Heard.{Heard}
-use Rattle.session.specs.Hears.{askOf, asksOf, Plain, Obeys, Hears}
-
--- an order is rehearsed
-pub asks-obeyed : (d : Desk) (n : Night) (s : List ℕ) (o : typed.Order) → asksOf o ≡ true → handled d n s o ≡ obeyed d n s (askOf o)
-unfolding handled
-asks-obeyed d n s (typed.the-variants.Districts g) e = cc
-asks-obeyed d n s (typed.the-variants.Job m) e = cc
-asks-obeyed d n s (typed.the-variants.Post j) e = refl
-asks-obeyed d n s (typed.the-variants.Stand p) e = refl
-asks-obeyed d n s (typed.the-variants.Retry p j) e = refl
-asks-obeyed d n s (typed.the-variants.Cut p) e = refl
-asks-obeyed d n s (typed.the-variants.Carry k) e = refl
-asks-obeyed d n s typed.the-variants.Unreadable e = cc
+use Rattle.session.specs.Hears.{Plain, Obeys, Hears}
 
 -- ---- laws
 
@@ -55,11 +45,11 @@ fixed-same d f = ap (λ (b : Bool). record { plan = d .plan; drawn = d .drawn; f
 pub plain-as : {d e : Desk} {x y : List ℕ} {h : Heard} {before after : List ℕ} → d ≡ e → x ≡ y → Plain d x h before after → Plain e y h before after
 plain-as p q H = rw (← p, ← q) H
 
-module _ {d : Desk} {used : ℕ} {x : BoxState} {s : List ℕ} {o : typed.Order} {h : Heard} {before after : List ℕ} where
+module _ {d : Desk} {used : ℕ} {x : BoxState} {s : List ℕ} {h : Heard} {before after : List ℕ} where
   -- a line that is no order
-  pub hears-plain : (e : Desk) (text : List ℕ) → ((n : Night) → handled d n s o ≡ record { desk = e; night = n; post = s; text = text })
+  pub hears-plain : {t : Typed} (e : Desk) (text : List ℕ) → ((n : Night) → handled d n s t ≡ record { desk = e; night = n; post = s; text = text })
       → (d .fixed ≡ true → e ≡ d)
-      → Plain e text h before after → Hears d used x s o h before after
+      → Plain e text h before after → Hears d used x s t h before after
   hears-plain e text f g H =
       record {
         most = H .says .most;
@@ -71,24 +61,24 @@ module _ {d : Desk} {used : ℕ} {x : BoxState} {s : List ℕ} {o : typed.Order}
       }
 
   -- an order
-  pub hears-order : (n-is : (n : Night) → handled d n s o ≡ obeyed d n s (askOf o)) → Obeys d used x s (askOf o) h before after
-      → Hears d used x s o h before after
-  hears-order f O =
+  pub hears-order : {o : Order} → Obeys d used x s o h before after → Hears d used x s (Given o) h before after
+  unfolding handled
+  hears-order {o} O =
       record {
         most = O .most;
         done = λ q n at S.
             let r = O .refuse q in
-            let g = alone-is (d .plan) used x s (askOf o) n at S ∙ r .1 in (
+            let g = alone-is (d .plan) used x s o n at S ∙ r .1 in (
               answerText true (r .0),
-              f n ∙ refused-leaves d n s (askOf o) (r .0) g
+              refused-leaves d n s o (r .0) g
                   ∙ ap (λ (z : Desk). record { desk = z; night = n; post = s; text = answerText true (r .0) }) (sym (O .fixed)),
               r .2 .long,
               r .2 .text-is,
             );
-        go = λ q. let g = O .go q in (g .0, g .1, g .2, O .fixed, f);
+        go = λ q. let g = O .go q in (g .0, g .1, g .2, O .fixed, λ n. refl);
         known = λ q. (ap (λ (z : Desk). z .fixed) (O .fixed), rw (O .fixed) (sym (O .known) ∙ q));
         fixed = λ q. O .fixed ∙ fixed-same d q;
       }
 
-  pub hears-as : {p : typed.Order} → o ≡ p → Hears d used x s p h before after → Hears d used x s o h before after
+  pub hears-as : {t u : Typed} → t ≡ u → Hears d used x s u h before after → Hears d used x s t h before after
   hears-as e H = rw e H

@@ -10,9 +10,10 @@ use lib.Seq.{getD-set-same, getD-set-other}
 use borrow.Author.Tests.{eqb-true, eqb-false}
 use Rattle.laws.proofs.laws.Choice.{never, look}
 use Rattle.house.specs.Pairs.{boxNo}
+use Rattle.house.specs.declared.Order.{Order}
 use Rattle.lines.specs.Feed.{Reading}
 use Rattle.lines.specs.declared.LineState.{LineState}
-use Rattle.lines.specs.declared.Order.{Order}
+use Rattle.lines.specs.declared.Typed.{Typed}
 use Rattle.boxes.specs.Box.{fresh}
 use Rattle.boxes.specs.Sound.{sound}
 use Rattle.boxes.specs.declared.BoxState.{BoxState}
@@ -21,7 +22,6 @@ use Rattle.post.proofs.laws.Index.{indexed-first, indexed-grown}
 use Rattle.rehearsal.specs.Night.{boxIn}
 use Rattle.rehearsal.specs.Alone.{Found}
 use Rattle.rehearsal.specs.declared.Night.{Night}
-use Rattle.house.specs.declared.Order as ask
 use Rattle.rehearsal.specs.declared.exists.Place.{Place}
 use Rattle.session.specs.declared.Desk.{Desk}
 use Rattle.session.specs.Heard.{After, handled}
@@ -54,10 +54,10 @@ holds-on r q whole line desk night post e H =
     }
 
 -- an order is acted on where a reading stands
-pub acts-on : (r : Reading World) (line : LineState) (desk : Desk) (night : Night) (post : List ℕ) (o : Order) → Holds r line desk night post
-    → act (r .state) o ≡ saying (r .state .text) (handled desk night post o)
+pub acts-on : (r : Reading World) (line : LineState) (desk : Desk) (night : Night) (post : List ℕ) (t : Typed) → Holds r line desk night post
+    → act (r .state) t ≡ saying (r .state .text) (handled desk night post t)
 unfolding act
-acts-on r line desk night post o H = rw (H .desk-is, H .night-is, H .post-is)
+acts-on r line desk night post t H = rw (H .desk-is, H .night-is, H .post-is)
 
 -- after a line that left a: the reading
 pub holds-after : (r q : Reading World) (a : After) (l : LineState) → r ≡ record { line = l; state = saying (q .state .text) a }
@@ -80,7 +80,7 @@ same-or-not : (i j : ℕ) → (i ≡ j) ⊎ (i ≢ j)
 same-or-not i j = ⊎-elim (λ t. inl (eqb-true i j t)) (λ t. inr (eqb-false i j t)) (look (eqb i j))
 
 -- a line has been heard: d is the desk after it, k says whether its box is known to be sound
-pub sure-heard : {desk : Desk} {boxes : List BoxState} {used : ℕ} {post : List ℕ} {known : List Bool} {index later : List ℕ} {count : ℕ} {o : ask.Order}
+pub sure-heard : {desk : Desk} {boxes : List BoxState} {used : ℕ} {post : List ℕ} {known : List Bool} {index later : List ℕ} {count : ℕ} {o : Order}
     (r : Place) (d : Desk) (k : Bool) {x : BoxState}
     → r .at < length known → x ≡ boxIn (record { boxes = boxes; used = used }) (r .at) → Found (desk .plan) (desk .fixed) used o post count r later
     → (k ≡ true → (d .fixed ≡ true) × (sound (d .plan) x ≡ true)) → (desk .fixed ≡ true → d ≡ desk) → Sure desk boxes used post known index count

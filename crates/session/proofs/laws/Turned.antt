@@ -11,6 +11,7 @@ use Rattle.laws.proofs.laws.Choice.{pick-false, never, look}
 use Rattle.laws.specs.Tray.{onto}
 use Rattle.house.specs.Limits.{leastTray}
 use Rattle.house.specs.Plan.{planSound}
+use Rattle.house.specs.declared.Order.{Order}
 use Rattle.records.specs.Answers.{postFull}
 use Rattle.records.specs.Bytes.{encodeAll}
 use Rattle.records.specs.declared.Answer.the-variants.{Done, No}
@@ -18,11 +19,10 @@ use Rattle.boxes.specs.Out.{Out, resultOf, recordsOf}
 use Rattle.boxes.specs.declared.BoxState.{BoxState}
 use Rattle.boxes.specs.declared.Outcome.{Outcome}
 use Rattle.report.specs.Texts.{answerMost}
-use Rattle.lines.specs.declared.Order.{Order}
+use Rattle.lines.specs.declared.Typed.{Typed}
 use Rattle.rehearsal.specs.Alone.{Stands}
 use Rattle.rehearsal.specs.Steps.{stepOf, Can}
 use Rattle.rehearsal.specs.declared.Night.{Night}
-use Rattle.house.specs.declared.Order as ask
 use Rattle.rehearsal.proofs.laws.Settled.{wrote, turned-does, turned-full, settles-front, settles-more, after-state}
 use Rattle.rehearsal.specs.declared.settling.Settled.{Settled}
 use Rattle.session.specs.declared.Desk.{Desk}
@@ -37,10 +37,10 @@ use Rattle.session.specs.Turned.{Finishes, Turns}
 -- ---- laws
 
 -- a box has been asked
-module _ {desk : Desk} {used : ℕ} {x : BoxState} {post : List ℕ} {o : Order} {h : Heard} {before mid : List ℕ} (H : Hears desk used x post o h before mid) where
+module _ {desk : Desk} {used : ℕ} {x : BoxState} {post : List ℕ} {t : Typed} {h : Heard} {before mid : List ℕ} (H : Hears desk used x post t h before mid) where
   -- the line is done with
   pub turns-passed : h .goes ≡ false
-      → Turns desk used x post o (record { state = x; desk = h .desk; used = used; text = h .text; known = h .known; new = false }) post before mid
+      → Turns desk used x post t (record { state = x; desk = h .desk; used = used; text = h .text; known = h .known; new = false }) post before mid
   unfolding pick
   turns-passed f =
       record {
@@ -60,7 +60,7 @@ module _ {desk : Desk} {used : ℕ} {x : BoxState} {post : List ℕ} {o : Order}
       }
 
   -- it is an order that goes
-  module _ (go : h .goes ≡ true) {a : ask.Order} (is-a : a ≡ askOf o) where
+  module _ (go : h .goes ≡ true) {a : Order} (is-a : a ≡ askOf t) where
     pub can-step : (planSound (desk .plan) ≡ true) × Can (desk .plan) x a (h .rec)
         × (length (encodeAll (desk .plan) (recordsOf (stepOf (desk .plan) x a (h .rec)))) ≤ leastTray)
     can-step = let G = H .go go .0 in (G .plan-sound, rw is-a (G .can), rw is-a (G .fits))
@@ -71,7 +71,7 @@ module _ {desk : Desk} {used : ℕ} {x : BoxState} {post : List ℕ} {o : Order}
         × (written ≡ onto (encodeAll (desk .plan) (recordsOf (stepOf (desk .plan) x a (h .rec)))) tray))
         (long : length written ≡ length tray) where
       abbrev done : Out
-      done = stepOf (desk .plan) x (askOf o) (h .rec)
+      done = stepOf (desk .plan) x (askOf t) (h .rec)
 
       is : out ≡ resultOf (desk .plan) x done
       is = rw (← is-a) (O .0)
@@ -94,8 +94,8 @@ module _ {desk : Desk} {used : ℕ} {x : BoxState} {post : List ℕ} {o : Order}
         said = rw (← H .go go .2) (S .printed)
 
         -- its records fit, or the post is full
-        stepped : (n : Night) (at : ℕ) → Stands (desk .plan) used x post (askOf o) n at → v .fits ≡ true
-            → handled desk n post o
+        stepped : (n : Night) (at : ℕ) → Stands (desk .plan) used x post (askOf t) n at → v .fits ≡ true
+            → handled desk n post t
             ≡ record {
               desk = fixedDesk desk;
               night = record { boxes = set (n .boxes) at (out .state); used = v .used };
@@ -104,8 +104,8 @@ module _ {desk : Desk} {used : ℕ} {x : BoxState} {post : List ℕ} {o : Order}
             }
         stepped n at T f = H .go go .4 n ∙ obeyed-is desk (turned-does (H .go go .0) out is n at T written later (wrote-now .1) settled (S .settles) f)
 
-        full : (n : Night) (at : ℕ) → Stands (desk .plan) used x post (askOf o) n at → v .fits ≡ false
-            → handled desk n post o
+        full : (n : Night) (at : ℕ) → Stands (desk .plan) used x post (askOf t) n at → v .fits ≡ false
+            → handled desk n post t
             ≡ record { desk = fixedDesk desk; night = record { boxes = n .boxes; used = v .used }; post = later; text = turnText (No postFull) 0 }
         full n at T f =
             H .go go .4 n ∙ obeyed-is desk (turned-full (H .go go .0) out is n at T written later (wrote-now .1) settled (S .settles) f)
@@ -113,7 +113,7 @@ module _ {desk : Desk} {used : ℕ} {x : BoxState} {post : List ℕ} {o : Order}
             (λ (k : ℕ). record { desk = fixedDesk desk; night = record { boxes = n .boxes; used = k }; post = later; text = turnText (No postFull) 0 })
             (T .used-is ∙ sym (S .settles .used-is ∙ pick-false (used + out .used) used f))
 
-        pub turns-gone : Turns desk used x post o
+        pub turns-gone : Turns desk used x post t
             (record { state = out .state; desk = h .desk; used = v .used; text = v .text; known = h .known; new = v .fits }) later before after
         unfolding pick
         turns-gone =
