@@ -69,7 +69,7 @@ unfoldable pub keptVector : Plan → BoxState → ℕ → List Ballot
 keptVector P x j = keptFor P x j 0 ∷ keptFor P x j 1 ∷ keptFor P x j 2 ∷ keptFor P x j 3 ∷ []
 
 -- p is the box of the ballot kept for its district
-unfoldable pub keptLeader : Plan → BoxState → ℕ → BoxNo → Bool
+abbrev pub keptLeader : Plan → BoxState → ℕ → BoxNo → Bool
 keptLeader P x j p = names P j (homeOf P p) && eqb (keptBallot x j (homeOf P p) .owner .0) (p .0)
 
 -- kind 3 to each kept ballot's box (lines 15-16)

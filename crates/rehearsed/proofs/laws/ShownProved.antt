@@ -2,7 +2,7 @@
 use Prim.Native.Nat.{ℕ, _<_}
 use mathlib.Core.Bool.{true}
 use mathlib.Core.List.{List, [], _∷_, _++_, append-nil}
-use mathlib.Core.Path.{_≡_, sym, ap, subst, subst₂, _∙_}
+use mathlib.Core.Path.{_≡_, refl, sym, ap, subst, subst₂, _∙_}
 use Rattle.house.specs.Plan.{boxesOf, planSound}
 use Rattle.house.specs.declared.Order.{Order}
 use Rattle.rehearsal.specs.Night.{boxIn}

@@ -172,7 +172,7 @@ module _ {P : Plan} {x : BoxState} (F : Fine P x) where
   vector-size j = refl
 
   acks-good : (j : ℕ) → names P j (homeOf P (x .core .own)) ≡ true → keptBelow P x j (P .districts) ≡ true → AllGood P (x .core .own) (acks P x j)
-  unfolding acks keptLeader
+  unfolding acks
   acks-good j n k =
       let S = F .sound in
       good-each (keptLeader P x j) (λ to. accept-ack (ownOf x) to j (keptVector P x j))

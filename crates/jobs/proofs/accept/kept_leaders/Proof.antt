@@ -27,7 +27,6 @@ loop-holds c =
     (search needs, e, rw e (boxes-most (a .args .plan) (a .pre)), c .no-marks .ensures)
 
 loop-again : tie.Need-loop-again Inv-loop μ-loop
-unfolding keptLeader
 loop-again c =
     let named-says = c .before .before .before .named .ensures in
     let at-4 = c .before .before .before .before in
