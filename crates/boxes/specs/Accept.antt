@@ -5,6 +5,7 @@ use mathlib.Core.List.{List, [], _∷_}
 use lib.Dec.{eqb}
 use Rattle.laws.specs.Choice.{pick}
 use Rattle.laws.specs.Fold.{upto, allBelow}
+use Rattle.house.specs.Limits.{acceptedPhase, committedPhase}
 use Rattle.house.specs.Pairs.{district, noStamp, noBallot, ballotLt, sameStamp, sameBallot, isNoBallot, laterStamp}
 use Rattle.house.specs.declared.Stamp.{Stamp}
 use Rattle.house.specs.declared.Ballot.{Ballot}
@@ -55,7 +56,7 @@ latestKept P x j n = upto (λ s d. pick (names P j (district d)) (laterStamp s (
 
 -- phase 0 or 1 becomes 2 (line 12); unless phase 3, the own stamp is stored (H) (line 13)
 unfoldable pub acceptedRow : Row → Stamp → Row
-acceptedRow r s = pick (eqb (r .phase) 3) r (record { phase = 2; local = s; global = noStamp })
+acceptedRow r s = pick (eqb (r .phase) committedPhase) r (record { phase = acceptedPhase; local = s; global = noStamp })
 
 unfoldable pub accepted : Plan → BoxState → ℕ → BoxState
 accepted P x j =

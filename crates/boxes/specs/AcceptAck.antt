@@ -6,6 +6,7 @@ use lib.ListN.{getD}
 use lib.Dec.{eqb}
 use Rattle.laws.specs.Choice.{pick}
 use Rattle.laws.specs.Fold.{allBelow}
+use Rattle.house.specs.Limits.{committedPhase}
 use Rattle.house.specs.Pairs.{district, noBallot, sameBallot}
 use Rattle.house.specs.declared.Ballot.{Ballot}
 use Rattle.house.specs.declared.BoxNo.{BoxNo}
@@ -36,7 +37,7 @@ enough P x j = hasMark (marksAt x j) (ownOf x) && quorumEach P j (marksAt x j)
 -- phase 3, global stamp the largest kept (lines 19-20), local the own kept (H)
 unfoldable pub committed : Plan → BoxState → ℕ → BoxState
 committed P x j =
-    putRow x (x .core .clock) j (record { phase = 3; local = keptStamp x j (homeIn P x); global = latestKept P x j (P .districts) })
+    putRow x (x .core .clock) j (record { phase = committedPhase; local = keptStamp x j (homeIn P x); global = latestKept P x j (P .districts) })
 
 unfoldable pub whenMarked : Plan → BoxState → ℕ → Out
 whenMarked P x j = pick (enough P x j) (handing (handOut P (committed P x j))) (does x [] Nothing)
@@ -49,7 +50,7 @@ acceptAckAnswer P x from j bs =
     (orNo (isLeader (x .core .status)) wrongStatus
     (orNo (agree P x j bs) wrongBallot
     -- phase 3 or already marked
-    (orNo (not (eqb (rowAt x j .phase) 3) && not (hasMark (marksAt x j) from)) alreadyDone
+    (orNo (not (eqb (rowAt x j .phase) committedPhase) && not (hasMark (marksAt x j) from)) alreadyDone
     Done)))
 
 unfoldable pub onAcceptAck : Plan → BoxState → BoxNo → ℕ → List Ballot → Out

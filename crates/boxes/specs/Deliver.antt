@@ -2,6 +2,7 @@
 use Prim.Native.Nat.{ℕ}
 use mathlib.Core.Bool.{not, _&&_}
 use mathlib.Core.List.{[]}
+use Rattle.house.specs.Limits.{committedPhase}
 use Rattle.house.specs.Pairs.{stampLt, sameBallot}
 use Rattle.house.specs.Plan.{names}
 use Rattle.house.specs.declared.Plan.{Plan}
@@ -17,7 +18,7 @@ use Rattle.boxes.specs.declared.Delivery.the-variants.{Job}
 -- phase 3, both stamps, clock raised (lines 26-29), job added to the list (lines 30-31)
 unfoldable pub delivered : BoxState → ℕ → Handout → BoxState
 delivered x j y =
-    putListed (putRow x (raised (x .core .clock) (y .global .time)) j (record { phase = 3; local = y .local; global = y .global })) j (y .global)
+    putListed (putRow x (raised (x .core .clock) (y .global .time)) j (record { phase = committedPhase; local = y .local; global = y .global })) j (y .global)
 
 -- what it is answered
 abbrev pub deliverAnswer : Plan → BoxState → ℕ → Handout → Answer

@@ -4,7 +4,7 @@ use mathlib.Core.Bool.{Bool, true, false, not, _&&_}
 use mathlib.Core.List.{List, [], _∷_, foldl}
 use lib.ListN.{set, replicate}
 use lib.Dec.{eqb}
-use Rattle.house.specs.Limits.{noJob}
+use Rattle.house.specs.Limits.{noJob, mostJobs, acceptedPhase, committedPhase}
 use Rattle.house.specs.Pairs.{district, boxNo, stamp, ballot, noStamp, noRow, stampLt, ballotLt, sameStamp, sameBallot, latestStamp}
 use Rattle.house.specs.declared.Stamp.{Stamp}
 use Rattle.house.specs.declared.Ballot.{Ballot}
@@ -24,17 +24,17 @@ use Rattle.boxes.specs.declared.Status.the-variants.{Follower}
 
 -- two districts and two jobs, each for both
 abbrev pub night : Plan
-night = record { districts = 2; jobs = 2; masks = set (set (replicate 64 0) 0 3) 1 3 }
+night = record { districts = 2; jobs = 2; masks = set (set (replicate mostJobs 0) 0 3) 1 3 }
 
 -- marks of some boxes
 abbrev pub marksOf : List ℕ → ℕ
 marksOf l = foldl (λ m p. marked m (boxNo p)) noMarks l
 
 abbrev pub accepted : Stamp → Row
-accepted s = record { phase = 2; local = s; global = noStamp }
+accepted s = record { phase = acceptedPhase; local = s; global = noStamp }
 
 abbrev pub committed : Stamp → Row
-committed s = record { phase = 3; local = s; global = s }
+committed s = record { phase = committedPhase; local = s; global = s }
 
 -- a box with these rows for jobs 0 and 1
 abbrev pub holding : Row → Row → BoxState

@@ -6,7 +6,7 @@ use lib.ListN.{getD, set, replicate}
 use lib.Dec.{eqb}
 use Rattle.laws.specs.Choice.{pick}
 use Rattle.laws.specs.Fold.{upto}
-use Rattle.house.specs.Limits.{mostJobs}
+use Rattle.house.specs.Limits.{mostJobs, acceptedPhase, committedPhase}
 use Rattle.house.specs.Pairs.{noBallot, noRow, sameBallot, higherBallot}
 use Rattle.house.specs.declared.Ballot.{Ballot}
 use Rattle.house.specs.declared.Row.{Row}
@@ -32,11 +32,11 @@ voteRow v j = getD (v .table) j noRow
 
 -- committed at this voter (line 47)
 unfoldable pub committedAt : ℕ → Vote → Bool
-committedAt j v = eqb (voteRow v j .phase) 3
+committedAt j v = eqb (voteRow v j .phase) committedPhase
 
 -- accepted at this voter of highest cballot (line 51)
 unfoldable pub acceptedAt : Ballot → ℕ → Vote → Bool
-acceptedAt top j v = sameBallot (v .cballot) top && eqb (voteRow v j .phase) 2
+acceptedAt top j v = sameBallot (v .cballot) top && eqb (voteRow v j .phase) acceptedPhase
 
 -- the row of the first vote that passes the test, else another row
 unfoldable pub firstRow : (Vote → Bool) → ℕ → List Vote → Row → Row

@@ -4,7 +4,7 @@ use mathlib.Core.Bool.{not, _||_}
 use mathlib.Core.List.{List}
 use lib.Dec.{ltb, eqb}
 use Rattle.laws.specs.Choice.{pick}
-use Rattle.house.specs.Limits.{mostTime}
+use Rattle.house.specs.Limits.{mostTime, startPhase, proposedPhase}
 use Rattle.house.specs.Pairs.{stamp, noStamp}
 use Rattle.house.specs.Plan.{names}
 use Rattle.house.specs.declared.Plan.{Plan}
@@ -20,8 +20,8 @@ use Rattle.boxes.specs.declared.Delivery.the-variants.{Nothing}
 -- phase 0: clock + 1, new local stamp, phase 1 (lines 5-8)
 unfoldable pub proposed : Plan → BoxState → ℕ → BoxState
 proposed P x j =
-    pick (eqb (rowAt x j .phase) 0)
-    (putRow x (x .core .clock + 1) j (record { phase = 1; local = stamp (x .core .clock + 1) (homeIn P x .0); global = noStamp }))
+    pick (eqb (rowAt x j .phase) startPhase)
+    (putRow x (x .core .clock + 1) j (record { phase = proposedPhase; local = stamp (x .core .clock + 1) (homeIn P x .0); global = noStamp }))
     x
 
 -- ACCEPT, stored stamp, to all boxes of named districts (line 9)
@@ -35,7 +35,7 @@ multicastAnswer P x j =
     -- leader only (line 4)
     (orNo (isLeader (x .core .status)) wrongStatus
     -- a new stamp needs room on the clock
-    (orNo (not (eqb (rowAt x j .phase) 0) || ltb (x .core .clock) mostTime) atLimit
+    (orNo (not (eqb (rowAt x j .phase) startPhase) || ltb (x .core .clock) mostTime) atLimit
     Done))
 
 unfoldable pub onMulticast : Plan → BoxState → ℕ → Out

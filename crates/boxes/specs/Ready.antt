@@ -6,7 +6,7 @@ use lib.ListN.{set}
 use lib.Dec.{eqb}
 use Rattle.laws.specs.Choice.{pick}
 use Rattle.laws.specs.Fold.{upto, allBelow}
-use Rattle.house.specs.Limits.{noJob}
+use Rattle.house.specs.Limits.{noJob, proposedPhase, acceptedPhase, committedPhase}
 use Rattle.house.specs.Pairs.{stampLt}
 use Rattle.house.specs.declared.Stamp.{Stamp}
 use Rattle.house.specs.declared.Plan.{Plan}
@@ -18,7 +18,7 @@ use Rattle.boxes.specs.declared.Delivery.the-variants.{Nothing}
 
 -- job j is open: proposed or accepted
 unfoldable pub isOpen : BoxState → ℕ → Bool
-isOpen x j = eqb (rowAt x j .phase) 1 || eqb (rowAt x j .phase) 2
+isOpen x j = eqb (rowAt x j .phase) proposedPhase || eqb (rowAt x j .phase) acceptedPhase
 
 -- every open job has a larger local stamp than this one
 unfoldable pub openAbove : Plan → BoxState → Stamp → Bool
@@ -26,7 +26,7 @@ openAbove P x s = allBelow (λ k. not (isOpen x k) || stampLt s (rowAt x k .loca
 
 -- ready: phase 3, not flagged, every open job above its global stamp
 unfoldable pub ready : Plan → BoxState → ℕ → Bool
-ready P x j = (eqb (rowAt x j .phase) 3 && not (sentAt x j)) && openAbove P x (rowAt x j .global)
+ready P x j = (eqb (rowAt x j .phase) committedPhase && not (sentAt x j)) && openAbove P x (rowAt x j .global)
 
 -- the better of two by global stamp, then job number; noJob stands for none yet
 unfoldable pub better : BoxState → ℕ → ℕ → Bool

@@ -6,7 +6,7 @@ use mathlib.Core.List.{List, [], _∷_, _++_}
 use lib.Dec.{ltb, eqb}
 use Rattle.laws.specs.Choice.{pick}
 use Rattle.laws.specs.Fold.{upto, allBelow, someBelow}
-use Rattle.house.specs.Limits.{mostJobs}
+use Rattle.house.specs.Limits.{mostJobs, committedPhase}
 use Rattle.house.specs.Pairs.{district, noStamp}
 use Rattle.house.specs.declared.Row.{Row}
 use Rattle.house.specs.Plan.{sizeOf, names}
@@ -22,7 +22,7 @@ unfoldable pub firstJobs : BoxState → ℕ → List ℕ
 firstJobs x n = upto (λ l i. l ++ (listedAt x i .job ∷ [])) [] n
 
 abbrev pub jobsOf : BoxState → List ℕ
-jobsOf x = firstJobs x 64
+jobsOf x = firstJobs x mostJobs
 
 -- how many of them are on the list: 64 places are there (a sound box never counts more)
 unfoldable pub shownOf : BoxState → ℕ
@@ -30,7 +30,7 @@ shownOf x = pick (ltb mostJobs (x .core .count)) mostJobs (x .core .count)
 
 -- committed is phase 3
 abbrev pub isCommitted : Row → Bool
-isCommitted r = eqb (r .phase) 3
+isCommitted r = eqb (r .phase) committedPhase
 
 -- what was found before, or the stamp of a row that is committed
 unfoldable pub firstOf : Committed → Row → Committed

@@ -1,4 +1,4 @@
--- Every limit of document 01 under one name. The code's constants of the same names stand in src/lib.rt.
+-- Every limit of document 01 and every phase of a job, each under one name. The code's constants of the same names stand in src/lib.rt.
 use Prim.Native.Nat.{ℕ}
 
 -- districts G: 1 to 4
@@ -12,6 +12,19 @@ mostBoxes = 12
 -- jobs J: 1 to 64
 abbrev pub mostJobs : ℕ
 mostJobs = 64
+
+-- the phases of a job at a box: 0 start, 1 proposed, 2 accepted, 3 committed
+abbrev pub startPhase : ℕ
+startPhase = 0
+
+abbrev pub proposedPhase : ℕ
+proposedPhase = 1
+
+abbrev pub acceptedPhase : ℕ
+acceptedPhase = 2
+
+abbrev pub committedPhase : ℕ
+committedPhase = 3
 
 -- clock and stamp time: at most 1,000,000
 abbrev pub mostTime : ℕ

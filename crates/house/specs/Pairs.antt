@@ -4,7 +4,7 @@ use mathlib.Core.Bool.{Bool, _&&_}
 use mathlib.Core.List.{List}
 use lib.Dec.{leb, eqb}
 use Rattle.laws.specs.Lex.{lexLt, lexEq, larger, largest}
-use Rattle.house.specs.Limits.{mostTime, mostNumber}
+use Rattle.house.specs.Limits.{mostTime, mostNumber, startPhase}
 use Rattle.house.specs.declared.Stamp.{Stamp}
 use Rattle.house.specs.declared.District.{District}
 use Rattle.house.specs.declared.Ballot.{Ballot}
@@ -34,7 +34,7 @@ noBallot = ballot 0 0
 
 -- a job at its start
 abbrev pub noRow : Row
-noRow = record { phase = 0; local = noStamp; global = noStamp }
+noRow = record { phase = startPhase; local = noStamp; global = noStamp }
 
 -- ordered by first part, then second
 unfoldable pub stampLt : Stamp → Stamp → Bool

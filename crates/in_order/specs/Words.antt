@@ -6,6 +6,7 @@ use mathlib.Core.List.{List, _++_}
 use mathlib.Core.Path.{_≡_}
 use lib.ListN.{set}
 use Rattle.laws.specs.Place.{At, In}
+use Rattle.house.specs.Limits.{committedPhase}
 use Rattle.house.specs.Pairs.{stampLt}
 use Rattle.house.specs.declared.Stamp.{Stamp}
 use Rattle.house.specs.declared.Ballot.{Ballot}
@@ -29,7 +30,7 @@ after P os = run P (new P) os
 
 -- in this world s is a final stamp of job m: its global stamp in phase 3 at some box, or the one in a DELIVER written
 pub data Shows (P : Plan) (w : World) (m : ℕ) (s : Stamp) : Type 0 where
-  committed : (p : ℕ) → p < boxesOf P → m < P .jobs → rowAt (boxAt w p) m .phase ≡ 3 → rowAt (boxAt w p) m .global ≡ s → Shows P w m s
+  committed : (p : ℕ) → p < boxesOf P → m < P .jobs → rowAt (boxAt w p) m .phase ≡ committedPhase → rowAt (boxAt w p) m .global ≡ s → Shows P w m s
   written : (from to : BoxNo) (y : Handout) → In (deliver from to m y) (w .post) → y .global ≡ s → Shows P w m s
 
 -- s is a final stamp of job m at some moment of the run: after some first part of its orders

@@ -1,18 +1,19 @@
 -- Records of a plan with two districts: some that obey the rules, some that break one each, bytes that are no record, and the bytes of two.
 use Prim.Native.Nat.{ℕ}
 use mathlib.Core.List.{List, [], _∷_}
+use Rattle.house.specs.Limits.{startPhase, proposedPhase, acceptedPhase, committedPhase}
 use Rattle.house.specs.Pairs.{stamp, ballot, boxNo, noStamp, noBallot, noRow}
 use Rattle.house.specs.declared.Row.{Row}
 use Rattle.records.specs.Rec.{Rec, multicast, accept, accept-ack, deliver, newleader, newleader-ack, new-state, newstate-ack}
 
 abbrev accepted : Row
-accepted = record { phase = 2; local = stamp 1 0; global = noStamp }
+accepted = record { phase = acceptedPhase; local = stamp 1 0; global = noStamp }
 
 abbrev proposed : Row
-proposed = record { phase = 1; local = stamp 1 0; global = noStamp }
+proposed = record { phase = proposedPhase; local = stamp 1 0; global = noStamp }
 
 abbrev committed : Row
-committed = record { phase = 3; local = stamp 1 0; global = stamp 2 1 }
+committed = record { phase = committedPhase; local = stamp 1 0; global = stamp 2 1 }
 
 abbrev pub good : List Rec
 good =
@@ -68,12 +69,22 @@ bad =
     newleader-ack
     (boxNo 4)
     (boxNo 3)
-    (record { ballot = ballot 1 3; cballot = noBallot; clock = stamp 0 1; table = noRow ∷ record { phase = 2; local = stamp 1 1; global = noStamp } ∷ [] })
+    (record {
+      ballot = ballot 1 3;
+      cballot = noBallot;
+      clock = stamp 0 1;
+      table = noRow ∷ record { phase = acceptedPhase; local = stamp 1 1; global = noStamp } ∷ [];
+    })
     ∷
     newleader-ack
     (boxNo 1)
     (boxNo 0)
-    (record { ballot = ballot 2 0; cballot = ballot 1 1; clock = stamp 0 0; table = record { phase = 0; local = stamp 1 0; global = noStamp } ∷ noRow ∷ [] })
+    (record {
+      ballot = ballot 2 0;
+      cballot = ballot 1 1;
+      clock = stamp 0 0;
+      table = record { phase = startPhase; local = stamp 1 0; global = noStamp } ∷ noRow ∷ [];
+    })
     -- 7: phase 1; to itself; another's ballot
     ∷ new-state (boxNo 0) (boxNo 1) (record { ballot = ballot 2 0; clock = stamp 5 0; table = proposed ∷ accepted ∷ [] })
     ∷ new-state (boxNo 0) (boxNo 0) (record { ballot = ballot 2 0; clock = stamp 5 0; table = noRow ∷ noRow ∷ [] })

@@ -6,7 +6,7 @@ use lib.ListN.{getD}
 use lib.Dec.{ltb, eqb}
 use Rattle.laws.specs.Choice.{pick}
 use Rattle.laws.specs.Fold.{allBelow}
-use Rattle.house.specs.Limits.{mostDistricts, mostJobs, noJob}
+use Rattle.house.specs.Limits.{mostDistricts, mostJobs, noJob, startPhase, proposedPhase, acceptedPhase, committedPhase}
 use Rattle.house.specs.Pairs.{district, noStamp, noBallot, noRow, stampLt, ballotLt, isNoStamp, isNoBallot, timeFits, stampOf, ballotOf}
 use Rattle.house.specs.declared.Stamp.{Stamp}
 use Rattle.house.specs.declared.Ballot.{Ballot}
@@ -29,14 +29,14 @@ bothStamps P j d l g = stampOf d l && (stampNamed P j g && not (stampLt g l))
 
 -- phase 0 has no stamps
 unfoldable pub startRow : Row → Bool
-startRow r = eqb (r .phase) 0 && (isNoStamp (r .local) && isNoStamp (r .global))
+startRow r = eqb (r .phase) startPhase && (isNoStamp (r .local) && isNoStamp (r .global))
 
 -- phases 1 and 2 have a local stamp only
 unfoldable pub openRow : District → Row → Bool
-openRow d r = (eqb (r .phase) 1 || eqb (r .phase) 2) && (stampOf d (r .local) && isNoStamp (r .global))
+openRow d r = (eqb (r .phase) proposedPhase || eqb (r .phase) acceptedPhase) && (stampOf d (r .local) && isNoStamp (r .global))
 
 unfoldable pub doneRow : Plan → ℕ → District → Row → Bool
-doneRow P j d r = eqb (r .phase) 3 && bothStamps P j d (r .local) (r .global)
+doneRow P j d r = eqb (r .phase) committedPhase && bothStamps P j d (r .local) (r .global)
 
 -- a row of district d for job j; a job that doesn't name the district is in phase 0
 unfoldable pub rowSound : Plan → District → ℕ → Row → Bool
@@ -47,7 +47,7 @@ rowsSound P d t n = allBelow (λ j. rowSound P d j (getD t j noRow)) n
 
 -- a NEW_STATE has no phase 1
 unfoldable pub noneProposed : List Row → ℕ → Bool
-noneProposed t n = allBelow (λ j. not (eqb (getD t j noRow .phase) 1)) n
+noneProposed t n = allBelow (λ j. not (eqb (getD t j noRow .phase) proposedPhase)) n
 
 -- in 3 ballot d is of a box of district d if the job names it, none if not
 unfoldable pub ballotFor : Plan → ℕ → List Ballot → ℕ → Bool

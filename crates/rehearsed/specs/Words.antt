@@ -3,6 +3,7 @@
 use Prim.Native.Nat.{ℕ, _<_}
 use mathlib.Core.List.{List, _++_}
 use mathlib.Core.Path.{_≡_}
+use Rattle.house.specs.Limits.{committedPhase}
 use Rattle.house.specs.declared.Stamp.{Stamp}
 use Rattle.house.specs.declared.Ballot.{Ballot}
 use Rattle.house.specs.declared.BoxNo.{BoxNo}
@@ -33,7 +34,7 @@ pub record Says (P : Plan) (r : Stage) (k : ℕ) (m : Rec) : Type 0 where
 
 -- s is a final stamp of job m here: its global stamp in phase 3 at some box, or the one in a DELIVER written
 pub data Shows (P : Plan) (r : Stage) (m : ℕ) (s : Stamp) : Type 0 where
-  committed : (p : ℕ) → p < boxesOf P → m < P .jobs → rowAt (boxOn r p) m .phase ≡ 3 → rowAt (boxOn r p) m .global ≡ s → Shows P r m s
+  committed : (p : ℕ) → p < boxesOf P → m < P .jobs → rowAt (boxOn r p) m .phase ≡ committedPhase → rowAt (boxOn r p) m .global ≡ s → Shows P r m s
   written : (k : ℕ) (from to : BoxNo) (y : Handout) → Says P r k (deliver from to m y) → y .global ≡ s → Shows P r m s
 
 -- s is a final stamp of job m at some moment of the rehearsal: after some first part of its orders

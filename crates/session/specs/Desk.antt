@@ -15,7 +15,7 @@ capped n = pick (leb 255 n) 255 n
 
 -- a plan without districts and jobs
 abbrev pub noPlan : Plan
-noPlan = record { districts = 0; jobs = 0; masks = replicate 64 0 }
+noPlan = record { districts = 0; jobs = 0; masks = replicate mostJobs 0 }
 
 abbrev pub emptyDesk : Desk
 emptyDesk = record { plan = noPlan; drawn = false; fixed = false }

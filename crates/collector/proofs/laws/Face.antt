@@ -15,6 +15,7 @@ use Rattle.house.specs.declared.BoxNo.{BoxNo}
 use Rattle.house.specs.Plan.{boxesOf, isJob, homeOf, sameHome, names, planSound}
 use Rattle.house.proofs.laws.Says.{boxes-most}
 use Rattle.house.specs.declared.Plan.{Plan}
+use Rattle.records.proofs.laws.Lengths.{Arrays}
 use Rattle.records.specs.Answers.{notSound, smallTray, unreadable, notNamed, isDone, unless, orNo}
 use Rattle.records.proofs.laws.Answers.{done-number, unless-none}
 use Rattle.records.specs.Bytes.{encode, encodeAll, parse, shaped}
@@ -32,7 +33,7 @@ use Rattle.boxes.specs.Step.{takes, receives, postNo, mayPost, retried, stood}
 use Rattle.boxes.specs.declared.BoxState.{BoxState}
 use Rattle.boxes.specs.declared.Delivery.the-variants.{Nothing}
 use Rattle.boxes.specs.declared.Outcome.{Outcome}
-use Rattle.stays_sound.proofs.laws.Sends.{Sized, in-each, each-most}
+use Rattle.stays_sound.proofs.laws.Sends.{in-each, each-most}
 use Rattle.stays_sound.proofs.laws.Size.{sizeOfRec, record-size, few-most}
 use Rattle.boxes.proofs.laws.Sound.{sound-plan}
 use Rattle.boxes.proofs.laws.Answers.{retry-is, stand-is}
@@ -109,7 +110,7 @@ module _ (P : Plan) (x : BoxState) {known : Bool} {room : ℕ} (k : known ≡ so
   stand-on e d = answering (stand P x) (standing P x) e (stand-is P x (sym d))
 
 -- records of at most 21 bytes, at most one a box, fit
-each-fits : (P : Plan) (meant : BoxNo → Bool) (f : BoxNo → Rec) → planSound P ≡ true → ((to : BoxNo) → Sized (carried (f to)) × (sizeOfRec P (f to) ≤ 21))
+each-fits : (P : Plan) (meant : BoxNo → Bool) (f : BoxNo → Rec) → planSound P ≡ true → ((to : BoxNo) → Arrays (carried (f to)) × (sizeOfRec P (f to) ≤ 21))
     → length (encodeAll P (toEach P meant f)) ≤ leastTray
 each-fits P meant f s h =
     let short : (to : BoxNo) → length (encode P (carried (f to))) ≤ 21 = λ to. rw (record-size P (f to) s (h to .0)) (h to .1) in

@@ -29,7 +29,7 @@ use Rattle.boxes.specs.declared.Outcome.{Outcome}
 use Rattle.boxes.specs.Lengths.{Lengths}
 use Rattle.boxes.proofs.laws.Sound.{sound-is, sound-plan}
 use Rattle.stays_sound.proofs.laws.Fresh.{fresh-is-sound, fresh-lengths}
-use Rattle.stays_sound.proofs.laws.Sends.{Every, no-step, a-step, every-guard, Sized, arrays, AllGood, good-nil}
+use Rattle.stays_sound.proofs.laws.Sends.{Every, no-step, a-step, every-guard, AllGood, good-nil}
 use Rattle.stays_sound.specs.Size.{longestOutput}
 use Rattle.stays_sound.proofs.laws.Goods.{Keeps, fits-none}
 use Rattle.stays_sound.proofs.laws.Steps.{takes-every, retried-every, stood-every, cut-off-every, posts-good, posts-fit}
@@ -49,7 +49,7 @@ sent {P} {from} {l} count used before tray s G f c u t =
       all = c;
       bytes = rw t (onto-front (encodeAll P l) before used u);
       fit = omega arith;
-      read = λ m i. let g = G .each m i in read-promised (sym (read-encoded P (carried m) s (arrays (g .sized)) (g .is-valid)));
+      read = λ m i. let g = G .each m i in read-promised (sym (read-encoded P (carried m) s (g .sized) (g .is-valid)));
       addressed = λ m i. let g = G .each m i in record { sender = g .by; addressee = good-box s g; named = g .named; obeys = g .is-valid };
     }
 
@@ -76,8 +76,7 @@ module _ {P : Plan} {x : BoxState} (s : sound P x ≡ true) (L : Lengths x) wher
   received-every : (room : ℕ) (bytes : List ℕ) → Every (Keeps P x) (receives P x room bytes)
   unfolding receives
   received-every room bytes =
-      let A = parse-arrays P bytes (sound-plan P x s) in
-      let Z : Sized (parse P bytes) = record { ballots = A .four; stamps = A .two; table = A .many } in
+      let Z = parse-arrays P bytes (sound-plan P x s) in
       every-guard
       (sound P x)
       _

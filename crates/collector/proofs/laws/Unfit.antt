@@ -76,7 +76,7 @@ move = does (joined box₁ (ballot 1 0)) (voteFor plan₁ box₁ (boxNo 0) (ball
 
 pub it-moves : receives plan₁ box₁ (length tray₁) (encode plan₁ (carried call)) ≡ move
 unfolding takes guard carried fresh react onNewleader ballotLt
-it-moves = received call (record { four = refl; two = refl; many = refl }) call-valid ∙ rw (box-is-sound, call-valid, meaning-carried call)
+it-moves = received call (record { ballots = refl; stamps = refl; table = refl }) call-valid ∙ rw (box-is-sound, call-valid, meaning-carried call)
 
 -- which is a record of 19 + 11 bytes
 it-writes : length (encodeAll plan₁ (voteFor plan₁ box₁ (boxNo 0) (ballot 1 0) ∷ [])) ≡ 30
@@ -98,7 +98,7 @@ answer-valid =
 -- a follower takes none: 7
 pub it-refuses : receives plan₁ box₁ (length tray₁) (encode plan₁ (carried answer)) ≡ refused wrongStatus
 unfolding takes guard carried fresh react onNewstateAck
-it-refuses = received answer (record { four = refl; two = refl; many = refl }) answer-valid ∙ rw (box-is-sound, answer-valid, meaning-carried answer)
+it-refuses = received answer (record { ballots = refl; stamps = refl; table = refl }) answer-valid ∙ rw (box-is-sound, answer-valid, meaning-carried answer)
 
 module _ (g : Keeping) where
   moves : g .says plan₁ box₁ (encode plan₁ (carried call)) tray₁ ≡ resultOf plan₁ box₁ move

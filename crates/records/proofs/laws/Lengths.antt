@@ -23,19 +23,19 @@ unmapped f l n e = sym (length-map l f) ∙ e
 
 -- the lengths of a record's arrays, which every struct of the code has
 pub record Arrays (r : Record) : Type 0 where
-  pub four : length (r .ballots) ≡ mostDistricts
-  pub two : length (r .stamps) ≡ 2
-  pub many : length (r .table) ≡ mostJobs
+  pub ballots : length (r .ballots) ≡ mostDistricts
+  pub stamps : length (r .stamps) ≡ 2
+  pub table : length (r .table) ≡ mostJobs
 
 module _ (P : Plan) (r : Record) (sound : planSound P ≡ true) (A : Arrays r) where
   pub ballots-here : ballotsIn P (r .kind) ≤ length (r .ballots)
-  ballots-here = rw (A .four) (ballots-most P (r .kind) sound)
+  ballots-here = rw (A .ballots) (ballots-most P (r .kind) sound)
 
   pub stamps-here : stampsIn (r .kind) ≤ length (r .stamps)
-  stamps-here = rw (A .two) (stamps-most (r .kind))
+  stamps-here = rw (A .stamps) (stamps-most (r .kind))
 
   pub rows-here : rowsIn P (r .kind) ≤ length (r .table)
-  rows-here = rw (A .many) (rows-most P (r .kind) sound)
+  rows-here = rw (A .table) (rows-most P (r .kind) sound)
 
   pub ballot-bytes-length : length (ballotBytes P r) ≡ 1 + ballotsIn P (r .kind) * 3
   unfolding ballotBytes ballots
@@ -81,13 +81,13 @@ parse-arrays P s sound =
     let k = getD s 1 0 in
     let b = ballots-most P k sound in let n = stamps-most k in let t = rows-most P k sound in
     record {
-      four =
+      ballots =
           length-append (decRow ballots (ballotsIn P k) (drop 6 s)) (replicate (mostDistricts - ballotsIn P k) noBallot)
           ∙ rw (row-read-length, length-replicate) (omega arith);
-      two =
+      stamps =
           length-append (decRow stamps (stampsIn k) (drop (stampsAt P k + 1) s)) (replicate (2 - stampsIn k) noStamp)
           ∙ rw (row-read-length, length-replicate) (omega arith);
-      many =
+      table =
           length-append (decRow rows (rowsIn P k) (drop (rowsAt P k + 1) s)) (replicate (mostJobs - rowsIn P k) noRow)
           ∙ rw (row-read-length, length-replicate) (omega arith);
     }

@@ -77,9 +77,9 @@ pub behind : (P : Plan) (r : Record) → Arrays r → Spare P r → Behind P r (
 unfolding spareBallots spareStamps spareRows isNoRow
 behind P r Z S =
     record {
-      ballots = spare-front noBallot isNoBallot no-ballot-says (r .ballots) (ballotsIn P (r .kind)) mostDistricts (Z .four) (S .ballots);
-      stamps = spare-front noStamp isNoStamp no-stamp-says (r .stamps) (stampsIn (r .kind)) 2 (Z .two) (S .stamps);
-      rows = spare-front noRow startRow start-says (r .table) (rowsIn P (r .kind)) mostJobs (Z .many) (S .rows);
+      ballots = spare-front noBallot isNoBallot no-ballot-says (r .ballots) (ballotsIn P (r .kind)) mostDistricts (Z .ballots) (S .ballots);
+      stamps = spare-front noStamp isNoStamp no-stamp-says (r .stamps) (stampsIn (r .kind)) 2 (Z .stamps) (S .stamps);
+      rows = spare-front noRow startRow start-says (r .table) (rowsIn P (r .kind)) mostJobs (Z .table) (S .rows);
     }
 
 no-job : (r : Record) → hasJob (r .kind) ≡ false → (hasJob (r .kind) || eqb (r .job) noJob) ≡ true → r .job ≡ noJob

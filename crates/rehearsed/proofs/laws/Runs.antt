@@ -22,7 +22,6 @@ use Rattle.records.proofs.laws.Rec.{meaning-carried}
 use Rattle.spelling.proofs.laws.Round.{parse-encode}
 use Rattle.boxes.specs.Box.{fresh}
 use Rattle.boxes.specs.Out.{Out, refused, does}
-use Rattle.stays_sound.proofs.laws.Sends.{arrays}
 use Rattle.world.specs.World as Worlds
 use Rattle.world.specs.World.{World, freshBoxes, new, run, step, recordAt}
 use Rattle.world.proofs.laws.Fresh.{fresh-length, fresh-at}
@@ -205,4 +204,4 @@ pub said-same : {P : Plan} {r : Stage} {w : World} → Reached P w → Beside P 
 said-same {P} {r} {w} R S k l =
     let g = record-good R k l in
     ap (λ (x : List ℕ). meaning (parse P x)) (bytes-same R S k l)
-    ∙ ap meaning (parse-encode P (carried (recordAt w k)) (R .plan) (arrays (g .sized)) (g .is-valid)) ∙ meaning-carried (recordAt w k)
+    ∙ ap meaning (parse-encode P (carried (recordAt w k)) (R .plan) (g .sized) (g .is-valid)) ∙ meaning-carried (recordAt w k)

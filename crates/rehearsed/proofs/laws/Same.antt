@@ -18,6 +18,7 @@ use Rattle.house.proofs.laws.Says.{some-box}
 use Rattle.house.specs.declared.Plan.{Plan}
 use Rattle.house.specs.declared.Order.{Order}
 use Rattle.house.specs.declared.Order.the-variants.{Post, Stand, Retry, Cut, Carry}
+use Rattle.records.proofs.laws.Lengths.{Arrays}
 use Rattle.records.specs.Rec.{Rec, carried, senderOf, addresseeOf}
 use Rattle.records.specs.Bytes.{encode, encodeAll}
 use Rattle.spelling.proofs.laws.Round.{parse-encode, encode-shaped}
@@ -28,7 +29,7 @@ use Rattle.boxes.specs.Post.{posts}
 use Rattle.boxes.specs.Step.{takes, receives, stood, retried, cutOff}
 use Rattle.boxes.specs.declared.BoxState.{BoxState}
 use Rattle.boxes.specs.declared.Delivery.the-variants.{Nothing}
-use Rattle.stays_sound.proofs.laws.Sends.{Good, Sized, arrays}
+use Rattle.stays_sound.proofs.laws.Sends.{Good}
 use Rattle.world.specs.World as Worlds
 use Rattle.world.specs.World.{World, boxAt, recordAt}
 use Rattle.world.proofs.laws.Reached.{Reached, record-good, record-box}
@@ -55,7 +56,7 @@ pub receives-takes : (P : Plan) (x : BoxState) (m : Rec) → planSound P ≡ tru
     → receives P x leastTray (encode P (carried m)) ≡ takes P x leastTray (carried m)
 unfolding receives guard
 receives-takes P x m p s g =
-    let A = arrays (g .sized) in
+    let A = g .sized in
     rw (s, encode-shaped P (carried m) p A (g .is-valid), parse-encode P (carried m) p A (g .is-valid))
 
 -- ---- an order
@@ -68,7 +69,7 @@ module _ {P : Plan} {n : Night} {s : List ℕ} {w : World} (R : Reached P w) (S 
   unfolding rest
   split = sym (take-append-drop (n .used) s) ∙ ap (λ (x : List ℕ). x ++ drop (n .used) s) (S .bytes)
 
-  sized : (m : Rec) → In m (w .post) → Sized (carried m)
+  sized : (m : Rec) → In m (w .post) → Arrays (carried m)
   sized m i = R .good m i .sized
 
   -- what holds of the records' bytes holds of the post

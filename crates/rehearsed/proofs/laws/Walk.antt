@@ -20,9 +20,8 @@ use Rattle.records.specs.Rec.{Rec, unknown, carried, addresseeOf}
 use Rattle.records.specs.Bytes.{headBytes, encode, encodeAll, lengthOf}
 use Rattle.records.specs.declared.Record.{Record}
 use Rattle.records.proofs.laws.Bytes.{encode-append, encode-none}
-use Rattle.records.proofs.laws.Lengths.{encode-length}
+use Rattle.records.proofs.laws.Lengths.{Arrays, encode-length}
 use Rattle.records.proofs.laws.Shapes.{ballots-inside}
-use Rattle.stays_sound.proofs.laws.Sends.{Sized, arrays}
 use Rattle.post.specs.Posting.{lengthAt, nextStart, startOf, bytesFrom, toBox}
 
 -- ---- records one behind the other
@@ -59,7 +58,7 @@ to-byte P r more = refl
 
 -- ---- the walk
 
-module _ (P : Plan) (l : List Rec) (rest : List ℕ) (sound : planSound P ≡ true) (sized : (m : Rec) → In m l → Sized (carried m)) where
+module _ (P : Plan) (l : List Rec) (rest : List ℕ) (sound : planSound P ≡ true) (sized : (m : Rec) → In m l → Arrays (carried m)) where
   abbrev bytes : List ℕ
   bytes = encodeAll P l ++ rest
 
@@ -73,7 +72,7 @@ module _ (P : Plan) (l : List Rec) (rest : List ℕ) (sound : planSound P ≡ tr
   rec k = carried (getD l k unknown)
 
   long : (k : ℕ) → k < length l → length (encode P (rec k)) ≡ lengthOf P (rec k .kind)
-  long k h = encode-length P (rec k) sound (arrays (sized (getD l k unknown) (record { place = k; there = at-getD l k unknown h })))
+  long k h = encode-length P (rec k) sound (sized (getD l k unknown) (record { place = k; there = at-getD l k unknown h }))
 
   some : (k : ℕ) → k < length l → 1 ≤ length (encode P (rec k))
   some k h = let e = long k h in let b = ballots-inside P (rec k .kind) in omega arith

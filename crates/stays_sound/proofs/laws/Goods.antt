@@ -18,6 +18,7 @@ use Rattle.house.specs.declared.District.{District}
 use Rattle.house.specs.Plan.{sizeOf, boxesOf, isJob, homeOf, names, planSound}
 use Rattle.house.proofs.laws.Says.{boxes-most, names-job}
 use Rattle.house.specs.declared.Plan.{Plan}
+use Rattle.records.proofs.laws.Lengths.{Arrays}
 use Rattle.records.specs.Format.{hasJob, entry}
 use Rattle.records.specs.Rec.{Rec, multicast, accept, accept-ack, deliver, newleader, newleader-ack, new-state}
 use Rattle.records.specs.declared.Proposal.{Proposal}
@@ -31,7 +32,7 @@ use Rattle.records.proofs.laws.Obeys.{Obeys, MulticastOk, AcceptOk, AckOk, Deli
 use Rattle.records.proofs.laws.Obeys.{valid-is}
 use Rattle.boxes.specs.Out.{Out, toEach}
 use Rattle.boxes.specs.declared.BoxState.{BoxState}
-use Rattle.stays_sound.proofs.laws.Sends.{Every, no-step, a-step, Sized, Good, AllGood, in-each, each-most, home-most, good-nil, good-by}
+use Rattle.stays_sound.proofs.laws.Sends.{Every, no-step, a-step, Good, AllGood, in-each, each-most, home-most, good-nil, good-by}
 use Rattle.stays_sound.proofs.laws.Size.{sizeOfRec, record-size, few-most, size-most}
 use Rattle.stays_sound.specs.Size.{longestOutput}
 use Rattle.stays_sound.proofs.laws.Changes.{Fine}
@@ -41,12 +42,12 @@ pub named-job : (P : Plan) (j : ℕ) (d : District) → names P j d ≡ true →
 unfolding isJob
 named-job P j d n = lt-ltb j (P .jobs) (names-job P j d n)
 
-sized : {r : Record} → length (r .ballots) ≡ mostDistricts → length (r .stamps) ≡ 2 → length (r .table) ≡ mostJobs → Sized r
+sized : {r : Record} → length (r .ballots) ≡ mostDistricts → length (r .stamps) ≡ 2 → length (r .table) ≡ mostJobs → Arrays r
 sized b s t = record { ballots = b; stamps = s; table = t }
 
 good : {P : Plan} {from : BoxNo} → planSound P ≡ true → (m : Rec) → Obeys P m
     → (hasJob (carried m .kind) ≡ true → names P (carried m .job) (homeOf P (addresseeOf m)) ≡ true) → senderOf m ≡ from
-    → Sized (carried m) → Good P from m
+    → Arrays (carried m) → Good P from m
 good {P} s m o n b z = record { is-valid = valid-is P m s o; named = n; by = b; sized = z }
 
 module _ {P : Plan} {from to : BoxNo} (s : planSound P ≡ true) where

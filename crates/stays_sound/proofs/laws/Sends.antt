@@ -12,7 +12,6 @@ use Rattle.laws.proofs.laws.Choice.{pick-when}
 use Rattle.laws.specs.Fold.{upto}
 use Rattle.laws.specs.Place.{In}
 use Rattle.laws.proofs.laws.Place.{in-nil, in-one, in-cases}
-use Rattle.house.specs.Limits.{mostDistricts, mostJobs}
 use Rattle.house.specs.Pairs.{boxNo}
 use Rattle.house.specs.declared.BoxNo.{BoxNo}
 use Rattle.house.specs.declared.District.{District}
@@ -22,7 +21,6 @@ use Rattle.house.specs.declared.Plan.{Plan}
 use Rattle.records.specs.Format.{hasJob}
 use Rattle.records.specs.Rec.{Rec, carried, senderOf, addresseeOf}
 use Rattle.records.specs.Rules.{valid}
-use Rattle.records.specs.declared.Record.{Record}
 use Rattle.records.proofs.laws.Lengths.{Arrays}
 use Rattle.boxes.specs.Out.{Out, refused, does, guard, toEach}
 use Rattle.boxes.specs.declared.BoxState.{BoxState}
@@ -114,21 +112,12 @@ home-most P meant f d h =
 
 -- ---- what every record must be
 
--- the lengths that a struct's arrays have by their types
-pub record Sized (r : Record) : Type 0 where
-  pub ballots : length (r .ballots) ≡ mostDistricts
-  pub stamps : length (r .stamps) ≡ 2
-  pub table : length (r .table) ≡ mostJobs
-
-pub arrays : {r : Record} → Sized r → Arrays r
-arrays Z = record { four = Z .ballots; two = Z .stamps; many = Z .table }
-
 -- valid, from this box, and the job of a kind that has one names the addressee's district
 pub record Good (P : Plan) (from : BoxNo) (m : Rec) : Type 0 where
   pub is-valid : valid P (carried m) ≡ true
   pub named : hasJob (carried m .kind) ≡ true → names P (carried m .job) (homeOf P (addresseeOf m)) ≡ true
   pub by : senderOf m ≡ from
-  pub sized : Sized (carried m)
+  pub sized : Arrays (carried m)
 
 pub record AllGood (P : Plan) (from : BoxNo) (l : List Rec) : Type 0 where
   pub each : (m : Rec) → In m l → Good P from m

@@ -16,8 +16,7 @@ use Rattle.house.specs.declared.Plan.{Plan}
 use Rattle.records.specs.Format.{entry, orPlan, ballotsIn, stampsIn, rowsIn}
 use Rattle.records.specs.Rec.{Rec, multicast, accept, accept-ack, deliver, newleader, newleader-ack, new-state, newstate-ack, unknown, carried}
 use Rattle.records.specs.Bytes.{encode, encodeAll, stampsAt, rowsAt, lengthOf}
-use Rattle.records.proofs.laws.Lengths.{encode-length}
-use Rattle.stays_sound.proofs.laws.Sends.{Sized, arrays}
+use Rattle.records.proofs.laws.Lengths.{Arrays, encode-length}
 use Rattle.stays_sound.specs.Size.{longestOutput}
 
 -- the bytes of a record by kind: sections of 4, 3, 5 and 11 bytes an element, each after its count
@@ -45,8 +44,8 @@ kind-size P (newstate-ack from to b) = refl
 kind-size P unknown = refl
 
 -- every record that has its arrays' lengths, under a sound plan
-pub record-size : (P : Plan) (m : Rec) → planSound P ≡ true → Sized (carried m) → length (encode P (carried m)) ≡ sizeOfRec P m
-record-size P m s Z = encode-length P (carried m) s (arrays Z) ∙ kind-size P m
+pub record-size : (P : Plan) (m : Rec) → planSound P ≡ true → Arrays (carried m) → length (encode P (carried m)) ≡ sizeOfRec P m
+record-size P m s Z = encode-length P (carried m) s Z ∙ kind-size P m
 
 -- ---- lists of records
 

@@ -17,6 +17,7 @@ use Rattle.house.specs.declared.BoxNo.{BoxNo}
 use Rattle.house.specs.Plan.{boxesOf, officeOf, isBox, isOffice, homeOf, sameHome, names, planSound}
 use Rattle.house.proofs.laws.Says.{same-home-says}
 use Rattle.house.specs.declared.Plan.{Plan}
+use Rattle.records.proofs.laws.Lengths.{Arrays}
 use Rattle.records.specs.Rec.{Rec, multicast, accept, accept-ack, deliver, newleader, newleader-ack, new-state, newstate-ack, unknown, carried, meaning}
 use Rattle.records.specs.Rec.{addresseeOf}
 use Rattle.records.specs.Rules.{valid}
@@ -38,7 +39,7 @@ use Rattle.boxes.specs.declared.Delivery.{Delivery}
 use Rattle.boxes.proofs.laws.Sound.{sound-says, sound-is}
 use Rattle.boxes.specs.Lengths.{Lengths}
 use Rattle.stays_sound.proofs.laws.Fresh.{cut-sound, cut-lengths}
-use Rattle.stays_sound.proofs.laws.Sends.{Every, no-step, a-step, every-guard, every-does, Sized, Good, AllGood, good-each, arrays}
+use Rattle.stays_sound.proofs.laws.Sends.{Every, no-step, a-step, every-guard, every-does, Good, AllGood, good-each}
 use Rattle.stays_sound.specs.Size.{longestOutput}
 use Rattle.stays_sound.proofs.laws.Changes.{Fine}
 use Rattle.stays_sound.proofs.laws.Goods.{named-job, good-multicast, good-newleader, Keeps, keeps-quiet, fits-each}
@@ -48,7 +49,7 @@ use Rattle.stays_sound.proofs.laws.Leads.{newleader-keeps, newleader-ac
 -- ---- by kind
 
 -- a record to the box that obeys the rules, with its arrays' lengths
-pub react-every : {P : Plan} {x : BoxState} (m : Rec) → Fine P x → Obeys P m → Sized (carried m) → addresseeOf m ≡ x .core .own
+pub react-every : {P : Plan} {x : BoxState} (m : Rec) → Fine P x → Obeys P m → Arrays (carried m) → addresseeOf m ≡ x .core .own
     → Every (Keeps P x) (react P x m)
 unfolding react addresseeOf carried
 react-every (multicast from to j) F O Z e = multicast-keeps j F
@@ -124,7 +125,7 @@ pub fine : (P : Plan) (x : BoxState) → sound P x ≡ true → Lengths x → Fi
 fine P x h L = record { sound = sound-says P x h; lengths = L }
 
 -- every struct and every box that the code has: soundness, the rules and the addressee are asked by the step itself
-pub takes-every : (P : Plan) (x : BoxState) (room : ℕ) (r : Record) → Lengths x → Sized r → Every (Keeps P x) (takes P x room r)
+pub takes-every : (P : Plan) (x : BoxState) (room : ℕ) (r : Record) → Lengths x → Arrays r → Every (Keeps P x) (takes P x room r)
 unfolding takes addresseeOf
 takes-every P x room r L Z =
     every-guard
@@ -135,8 +136,8 @@ takes-every P x room r L Z =
   where
     go : Fine P x → valid P r ≡ true → r .to ≡ ownOf x → Every (Keeps P x) (react P x (meaning r))
     go F v e =
-        let c = carried-meaning P r (arrays Z) v in
-        react-every (meaning r) F (struct-obeys P r (F .sound .plan) (arrays Z) v) (subst Sized (sym c) Z) (ap (λ (q : Record). q .to) c ∙ e)
+        let c = carried-meaning P r Z v in
+        react-every (meaning r) F (struct-obeys P r (F .sound .plan) Z v) (subst Arrays (sym c) Z) (ap (λ (q : Record). q .to) c ∙ e)
 
 pub retried-every : (P : Plan) (x : BoxState) (j room : ℕ) → Lengths x → Every (Keeps P x) (retried P x j room)
 unfolding retried

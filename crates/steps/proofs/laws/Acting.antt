@@ -10,6 +10,7 @@ use Rattle.laws.proofs.laws.Choice.{never}
 use Rattle.laws.proofs.laws.Fold.{some-is}
 use Rattle.house.specs.Limits.{mostJobs, leastTray}
 use Rattle.house.specs.Pairs.{stampLt, sameBallot}
+use Rattle.records.proofs.laws.Lengths.{Arrays}
 use Rattle.records.specs.declared.Handout.{Handout}
 use Rattle.house.specs.Plan.{isJob, isBox, homeOf, names, planSound}
 use Rattle.house.proofs.laws.Says.{plan-says, box-says, home-low}
@@ -31,7 +32,7 @@ use Rattle.boxes.specs.Deliver.{deliverAnswer}
 use Rattle.boxes.specs.declared.BoxState.{BoxState}
 use Rattle.boxes.proofs.laws.Sound.{SoundBox, sound-says}
 use Rattle.boxes.specs.Lengths.{Lengths}
-use Rattle.stays_sound.proofs.laws.Sends.{Every, no-step, a-step, Sized}
+use Rattle.stays_sound.proofs.laws.Sends.{Every, no-step, a-step}
 use Rattle.stays_sound.proofs.laws.Listing.{list-room}
 use Rattle.stays_sound.proofs.laws.Goods.{Keeps, fits-none}
 use Rattle.stays_sound.proofs.laws.Steps.{takes-every}
@@ -56,7 +57,7 @@ takes-on P x room r s h v t =
     guard-on notSound _ s ∙ guard-on smallTray _ (le-leb leastTray room h) ∙ guard-on brokenRule _ v ∙ guard-on otherBox _ t
 
 pub acting : (P : Plan) (x : BoxState) (room : ℕ) (r : Record)
-    → Lengths x → Sized r → sound P x ≡ true → leastTray ≤ room → valid P r ≡ true → eqb (r .to .0) (ownOf x .0) ≡ true
+    → Lengths x → Arrays r → sound P x ≡ true → leastTray ≤ room → valid P r ≡ true → eqb (r .to .0) (ownOf x .0) ≡ true
     → Acting P x r room
 acting P x room r L Z s h v t =
     let f = every-fits (takes-every P x room r L Z) in

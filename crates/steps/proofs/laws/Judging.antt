@@ -17,7 +17,7 @@ use Rattle.records.specs.declared.Answer.{Answer}
 use Rattle.records.specs.declared.Answer.the-variants.{Done, No}
 use Rattle.records.specs.declared.Record.{Record}
 use Rattle.records.proofs.laws.Answers.{no-done, no-is}
-use Rattle.records.proofs.laws.Lengths.{parse-arrays}
+use Rattle.records.proofs.laws.Lengths.{Arrays, parse-arrays}
 use Rattle.boxes.specs.Box.{ownOf}
 use Rattle.boxes.specs.Sound.{sound}
 use Rattle.boxes.specs.Out.{Out, refused, guard, under}
@@ -25,7 +25,7 @@ use Rattle.boxes.specs.Step.{react, takes, receives}
 use Rattle.boxes.specs.declared.BoxState.{BoxState}
 use Rattle.boxes.specs.Lengths.{Lengths}
 use Rattle.boxes.proofs.laws.Sound.{sound-plan}
-use Rattle.stays_sound.proofs.laws.Sends.{Every, every-guard, Sized}
+use Rattle.stays_sound.proofs.laws.Sends.{Every, every-guard}
 use Rattle.stays_sound.proofs.laws.Goods.{Keeps}
 use Rattle.stays_sound.proofs.laws.Steps.{takes-every}
 use Rattle.steps.proofs.laws.Acting.{acting, guard-on}
@@ -44,15 +44,11 @@ read-guards true true o = refl
 read-guards true false o = refl
 read-guards false b o = refl
 
--- the arrays of a struct that was read have their lengths
-parse-sized : (P : Plan) (s : List ℕ) → planSound P ≡ true → Sized (parse P s)
-parse-sized P s h = let A = parse-arrays P s h in record { ballots = A .four; stamps = A .two; table = A .many }
-
 -- whatever comes of bytes, the box stays sound and its records fit
 pub receives-every : (P : Plan) (x : BoxState) (room : ℕ) (s : List ℕ) → Lengths x → Every (Keeps P x) (receives P x room s)
 unfolding receives
 receives-every P x room s L =
-    every-guard _ _ _ (λ h. every-guard _ _ _ (λ t. every-guard _ _ _ (λ v. takes-every P x room (parse P s) L (parse-sized P s (sound-plan P x h)))))
+    every-guard _ _ _ (λ h. every-guard _ _ _ (λ t. every-guard _ _ _ (λ v. takes-every P x room (parse P s) L (parse-arrays P s (sound-plan P x h)))))
 
 five-no : (t : Bool) (o : Out) (j : Answer) (n : ℕ) → ((m : ℕ) → j ≡ No m → o ≡ refused m) → orNo t otherBox j ≡ No n → guard t otherBox o ≡ refused n
 unfolding guard
@@ -89,7 +85,7 @@ module _ (P : Plan) (x : BoxState) (s : List ℕ) (h : sound P x ≡ true) where
   judging-taken a r L d e v ea =
       let mine = eqb (r .to .0) (ownOf x .0) in
       let o = react P x (meaning r) in
-      let Z : Sized r = rw e (parse-sized P s (sound-plan P x h)) in
+      let Z : Arrays r = rw e (parse-arrays P s (sound-plan P x h)) in
       let k : (room : ℕ) → leastTray ≤ room → receives P x room s ≡ guard mine otherBox o = λ room t. receives-on room t d ∙ ap taken (sym e) in
       record {
         refuse = λ n q room t. k room t ∙ five-no mine o (judged P x (meaning r)) n (judged-no P x (meaning r)) (sym ea ∙ q);

@@ -14,9 +14,9 @@ arrays c =
     let given = c .args in
     let g = c .good .1 .0 .1 .1 .1 .1 .1 .1 in
     record {
-      four = unmapped _ (given .r .ballots) 4 (g .0 .1 .0 .1);
-      two = unmapped _ (given .r .stamps) 2 (g .1 .0 .1 .0 .1);
-      many = unmapped _ (given .r .table) 64 (g .1 .1 .0 .1 .0 .1);
+      ballots = unmapped _ (given .r .ballots) 4 (g .0 .1 .0 .1);
+      stamps = unmapped _ (given .r .stamps) 2 (g .1 .0 .1 .0 .1);
+      table = unmapped _ (given .r .table) 64 (g .1 .1 .0 .1 .0 .1);
     }
 
 put-record-requires : tie.Need-put-record-requires
