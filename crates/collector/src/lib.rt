@@ -81,7 +81,8 @@ pub fn retry_job(plan: Plan, x: BoxState, job: u8, tray: &mut [u8]) -> Outcome
     if let Answer::No(n) = answer {
         return boxes::refused(x, n);
     }
-    jobs::do_retry(plan, x, job, tray)
+    let s = jobs::do_retry(plan, x, job, tray);
+    boxes::done(x, s.used, s.records, Delivery::Nothing)
 }
 
 // the answer to an order to stand: 1, 2, then its own test
@@ -105,7 +106,8 @@ pub fn stand_up(plan: Plan, x: BoxState, tray: &mut [u8]) -> Outcome
     if let Answer::No(n) = answer {
         return boxes::refused(x, n);
     }
-    leaders::do_stand(plan, x, tray)
+    let s = leaders::do_stand(plan, x, tray);
+    boxes::done(x, s.used, s.records, Delivery::Nothing)
 }
 
 // a box loses power: it forgets its volatile part

@@ -4,17 +4,15 @@ ghost use mathlib.Core.Bool.{true};
 ghost use mathlib.Core.Path.{_≡_};
 ghost use Prim.Native.Nat.{_≤_, _<_};
 ghost use lib.ListN.{length};
-ghost use Rattle.laws.specs.Tray.{onto};
 ghost use Rattle.house.specs.Limits.{mostNumber};
 ghost use Rattle.house.specs.Plan.{planSound};
 ghost use Rattle.records.specs.Bytes.{encodeAll};
-ghost use Rattle.boxes.specs.Out.{does, resultOf};
 ghost use Rattle.boxes.specs.Stand.{standing, standAnswer};
-ghost use Rattle.boxes.specs.declared.Delivery.the-variants.{Nothing};
+ghost use Rattle.sending.specs.Sends.{Written};
 use boxes::BoxState;
-use boxes::Outcome;
 use house::Plan;
 use records::Answer;
+use sending::Sent;
 
 // stand: room for the next ballot number
 pub fn decide_stand(x: BoxState) -> Answer
@@ -25,14 +23,14 @@ pub fn decide_stand(x: BoxState) -> Answer
     boxes::in_order(true, true, true, true, ballot.number < house::MOST_NUMBER)
 }
 
-// NEWLEADER with the next ballot to the district, and the box stays
-pub fn do_stand(plan: Plan, x: BoxState, tray: &mut [u8]) -> Outcome
+// NEWLEADER with the next ballot to the district; the box stays as it is
+pub fn do_stand(plan: Plan, x: BoxState, tray: &mut [u8]) -> Sent
     requires { ⌜ (planSound plan ≡ true) × (x .core .ballot .number < mostNumber) × (length (encodeAll plan (standing plan x)) ≤ length (now tray)) ⌝ }
-    ensures { λ r. ⌜ (r ≡ resultOf plan x (does x (standing plan x) Nothing)) × (now (tray .exit) ≡ onto (encodeAll plan (standing plan x)) (now (tray .entry))) ⌝ }
+    ensures { λ s. ⌜ Written plan (standing plan x) (now (tray .entry)) s (now (tray .exit)) ⌝ }
 {
     let c = x.core;
     let own = c.own;
     let r = sending::stand_record(x, own);
     let meant = house::home_boxes(plan, own);
-    sending::done_sending(plan, x, r, meant, tray)
+    sending::send(tray, plan, r, meant)
 }

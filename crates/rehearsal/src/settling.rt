@@ -10,7 +10,6 @@ ghost use Rattle.house.specs.Limits.{leastTray};
 ghost use Rattle.house.specs.Plan.{planSound};
 ghost use Rattle.records.specs.Bytes.{encodeAll};
 ghost use Rattle.boxes.specs.Cut.{cut};
-ghost use Rattle.boxes.specs.Post.{posts};
 ghost use Rattle.boxes.specs.Out.{does, resultOf, recordsOf};
 ghost use Rattle.boxes.specs.declared.Delivery.the-variants.{Nothing};
 ghost use Rattle.rehearsal.specs.Steps.{stepOf, Can};
@@ -28,15 +27,6 @@ pub struct Settled {
     pub fits: bool,
 }
 
-// the office's records are sent, and the box stays
-fn post_only(plan: Plan, x: BoxState, job: u8, tray: &mut [u8]) -> Outcome
-    requires { ⌜ (planSound plan ≡ true) × (length (encodeAll plan (posts plan job)) ≤ length (now tray)) ⌝ }
-    ensures { λ o. ⌜ (o ≡ resultOf plan x (does x (posts plan job) Nothing)) × (now (tray .exit) ≡ onto (encodeAll plan (posts plan job)) (now (tray .entry))) ⌝ }
-{
-    let s = jobs::do_post(plan, job, tray);
-    boxes::done(x, s.used, s.records, Delivery::Nothing)
-}
-
 // the box forgets its volatile part
 fn cut_only(x: BoxState) -> Outcome
     ensures { λ o. ⌜ ((P : Plan) → o ≡ resultOf P x (does (cut x) [] Nothing)) ⌝ }
@@ -51,9 +41,18 @@ pub fn step(plan: Plan, x: BoxState, order: Order, r: Record, tray: &mut [u8]) -
     ensures { λ o. ⌜ (o ≡ resultOf plan x (stepOf plan x order r)) × (now (tray .exit) ≡ onto (encodeAll plan (recordsOf (stepOf plan x order r))) (now (tray .entry))) ⌝ }
 {
     match order {
-        Order::Post(j) => post_only(plan, x, j as u8, tray),
-        Order::Stand(p) => leaders::do_stand(plan, x, tray),
-        Order::Retry(p, j) => jobs::do_retry(plan, x, j as u8, tray),
+        Order::Post(j) => {
+            let s = jobs::do_post(plan, j as u8, tray);
+            boxes::done(x, s.used, s.records, Delivery::Nothing)
+        }
+        Order::Stand(p) => {
+            let s = leaders::do_stand(plan, x, tray);
+            boxes::done(x, s.used, s.records, Delivery::Nothing)
+        }
+        Order::Retry(p, j) => {
+            let s = jobs::do_retry(plan, x, j as u8, tray);
+            boxes::done(x, s.used, s.records, Delivery::Nothing)
+        }
         Order::Cut(p) => cut_only(x),
         Order::Carry(k) => steps::act(plan, x, r, tray),
     }

@@ -2,6 +2,7 @@
 use Rattle.collector.proofs.laws.Face.{refusing, answered-no, answered-done, retries-fit}
 use Rattle.boxes.proofs.laws.Promise.{stepped}
 use native.Mathlib.Omega.{arith}
+use mathlib.Core.Path.{_∙_}
 use borrow.Author.Needs.{needs}
 use Rattle.collector.proofs.retry_job.Statement.{statement}
 use Rattle.collector.proofs.retry_job.Tie as tie
@@ -24,10 +25,10 @@ do-retry-requires c κs =
 
 returns-2 : tie.Need-returns-2
 returns-2 c =
-    let d = c .before .before .before .before in
+    let d = c .before .before .before .before .before in
     let e = answered-done (d .before .before .judge-retry .ensures) (d .enum-told .given .1) in
-    let q = c .before .before .do-retry .ensures in
-    stepped (rw e (q .0)) (rw e (q .1))
+    let q = c .before .before .before .do-retry .ensures in
+    stepped (c .done .ensures ∙ rw (e, q .used, q .records)) (rw e (q .tray))
 
 pub retry-job-spec : {M : Type 1} → statement M
 retry-job-spec =
@@ -40,5 +41,6 @@ retry-job-spec =
     returns
     (λ c. search needs)
     do-retry-requires
+    (λ c κs. search needs)
     (λ c. search needs)
     returns-2)

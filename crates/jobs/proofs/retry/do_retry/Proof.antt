@@ -17,11 +17,13 @@ sent c =
     rw (c .named-boxes .ensures, c .before .multicast-record .ensures)
     (sent-retries (a .plan) (c .before .before .before .before .before .pre .0) (a .job) (a .x))
 
-done-sending-requires : tie.Need-done-sending-requires
-done-sending-requires c κs = let p = c .before .before .before .before .before .before .pre in (p .0, (_, sent (c .before), p .1))
+send-requires : tie.Need-send-requires
+send-requires c κs = let p = c .before .before .before .before .before .before .pre in (p .0, rw (← sent (c .before) .bytes) (p .1))
 
 returns : tie.Need-returns
-returns c = c .before .before .done-sending .ensures _ (sent (c .before .before .before .before))
+returns c =
+    let S = sent (c .before .before .before .before) in let q = c .before .before .send .ensures in
+    record { used = rw (S .bytes) (q .0); records = rw (S .count) (q .1); tray = rw (S .bytes) (q .2) }
 
 pub do-retry-spec : {M : Type 1} → statement M
-do-retry-spec = tie.close (tie.spec (λ c κs. search needs) named-boxes-requires done-sending-requires (λ c. search needs) returns)
+do-retry-spec = tie.close (tie.spec (λ c κs. search needs) named-boxes-requires send-requires (λ c. search needs) returns)

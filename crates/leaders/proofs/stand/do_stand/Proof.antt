@@ -16,11 +16,13 @@ sent c =
     let a = c .before .before .before .before .before .args in
     rw (c .home-boxes .ensures, c .before .stand-record .ensures) (standing-sent (a .plan) (c .before .before .before .before .before .pre .0) (a .x))
 
-done-sending-requires : tie.Need-done-sending-requires
-done-sending-requires c κs = let p = c .before .before .before .before .before .before .pre in (p .0, (_, sent (c .before), p .2))
+send-requires : tie.Need-send-requires
+send-requires c κs = let p = c .before .before .before .before .before .before .pre in (p .0, rw (← sent (c .before) .bytes) (p .2))
 
 returns : tie.Need-returns
-returns c = c .before .before .done-sending .ensures _ (sent (c .before .before .before .before))
+returns c =
+    let S = sent (c .before .before .before .before) in let q = c .before .before .send .ensures in
+    record { used = rw (S .bytes) (q .0); records = rw (S .count) (q .1); tray = rw (S .bytes) (q .2) }
 
 pub do-stand-spec : {M : Type 1} → statement M
-do-stand-spec = tie.close (tie.spec (λ c κs. search needs) home-boxes-requires done-sending-requires (λ c. search needs) returns)
+do-stand-spec = tie.close (tie.spec (λ c κs. search needs) home-boxes-requires send-requires (λ c. search needs) returns)

@@ -2,16 +2,16 @@
 use Rattle.laws.proofs.laws.Tray.{onto-nil}
 use Rattle.records.proofs.laws.Bytes.{encode-none}
 use native.Mathlib.Omega.{arith}
-use mathlib.Core.Path.{sym}
+use mathlib.Core.Path.{sym, _∙_}
 use borrow.Author.Needs.{needs}
 use Rattle.rehearsal.proofs.settling.step.Statement.{statement}
 use Rattle.rehearsal.proofs.settling.step.Tie as tie
 
-cast-post-only : tie.Need-cast-post-only
-cast-post-only c = let l = rw (c .before .order .given .1) at (c .before .before .before .before .pre .1) in omega (arith, l)
+cast-do-post : tie.Need-cast-do-post
+cast-do-post c = let l = rw (c .before .order .given .1) at (c .before .before .before .before .pre .1) in omega (arith, l)
 
-post-only-requires : tie.Need-post-only-requires
-post-only-requires c κs =
+do-post-requires : tie.Need-do-post-requires
+do-post-requires c κs =
     let p = c .before .before .before .before .before .pre in let e = c .before .before .order .given .1 in
     (p .0, rw (p .3) (rw e at (p .2)))
 
@@ -35,18 +35,21 @@ act-requires c κs =
 
 returns : tie.Need-returns
 returns c =
-    let e = c .before .before .before .before .before .order .given .1 in
-    rw e (c .before .before .post-only .ensures)
+    let e = c .before .before .before .before .before .before .order .given .1 in
+    let q = c .before .before .before .do-post .ensures in
+    rw e (c .done .ensures ∙ rw (q .used, q .records), q .tray)
 
 returns-2 : tie.Need-returns-2
 returns-2 c =
-    let e = c .before .before .before .before .before .order2 .given .1 in
-    rw e (c .before .before .do-stand .ensures)
+    let e = c .before .before .before .before .before .before .order2 .given .1 in
+    let q = c .before .before .before .do-stand .ensures in
+    rw e (c .done2 .ensures ∙ rw (q .used, q .records), q .tray)
 
 returns-3 : tie.Need-returns-3
 returns-3 c =
-    let e = c .before .before .before .before .before .order3 .given .1 in
-    rw e (c .before .before .do-retry .ensures)
+    let e = c .before .before .before .before .before .before .order3 .given .1 in
+    let q = c .before .before .before .do-retry .ensures in
+    rw e (c .done3 .ensures ∙ rw (q .used, q .records), q .tray)
 
 returns-4 : tie.Need-returns-4
 returns-4 c =
@@ -64,13 +67,16 @@ step-spec =
     tie.close
     (tie.spec
     (λ c. search needs)
-    cast-post-only
-    post-only-requires
+    cast-do-post
+    do-post-requires
+    (λ c κs. search needs)
     (λ c. search needs)
     do-stand-requires
+    (λ c κs. search needs)
     (λ c. search needs)
     cast-do-retry
     do-retry-requires
+    (λ c κs. search needs)
     (λ c. search needs)
     (λ c κs. search needs)
     (λ c. search needs)
