@@ -4,7 +4,7 @@ mod accept;
 mod accept_ack;
 mod deliver;
 mod multicast;
-mod post;
+mod posts;
 mod retry;
 
 pub use accept::decide_accept;
@@ -15,6 +15,6 @@ pub use deliver::decide_deliver;
 pub use deliver::do_deliver;
 pub use multicast::decide_multicast;
 pub use multicast::do_multicast;
-pub use post::do_post;
+pub use posts::do_post;
 pub use retry::decide_retry;
 pub use retry::do_retry;

@@ -1,10 +1,10 @@
--- `jobs::post::do_post` meets its contract.
+-- `jobs::posts::do_post` meets its contract.
 use Rattle.jobs.proofs.laws.Steps.{sent-posts}
 use Rattle.boxes.specs.Post.{posts}
 use Rattle.sending.specs.Sends.{Sends}
 use borrow.Author.Needs.{needs}
-use Rattle.jobs.proofs.post.do_post.Statement.{statement}
-use Rattle.jobs.proofs.post.do_post.Tie as tie
+use Rattle.jobs.proofs.posts.do_post.Statement.{statement}
+use Rattle.jobs.proofs.posts.do_post.Tie as tie
 
 office-of-requires : tie.Need-office-of-requires
 office-of-requires c κs = c .before .pre .0
