@@ -3,7 +3,7 @@ use Rattle.std.specs.Prelude.{ℕ, ◌+◌, ◌-◌, ◌*◌, Bool, true, false,
 use Rattle.laws.specs.Choice.{pick}
 use Rattle.laws.specs.Fold.{some_below}
 use Rattle.house.specs.Limits.{most_districts, most_jobs}
-use Rattle.house.specs.Pairs.{box_no, no_stamp, no_ballot, no_row, stamp}
+use Rattle.house.specs.Pairs.{box_no, no_stamp, no_ballot, no_row}
 use Rattle.house.specs.declared.Stamp.{Stamp}
 use Rattle.house.specs.declared.Ballot.{Ballot}
 use Rattle.house.specs.declared.BoxNo.{BoxNo}

@@ -37,7 +37,8 @@ sent_sound P x = all_below (λ j. is_job P j || not (sent_at x j)) most_jobs
 -- an ACCEPT is kept only for a named district, by a box and with a stamp of that district
 unfoldable pub kept_sound : Plan → BoxState → ℕ → District → Bool
 kept_sound P x j d =
-    (is_no_ballot (kept_ballot x j d) && is_no_stamp (kept_stamp x j d)) || (names P j d && (ballot_in P d (kept_ballot x j d) && stamp_of d (kept_stamp x j d)))
+    (is_no_ballot (kept_ballot x j d) && is_no_stamp (kept_stamp x j d)) || (names P j d
+    && (ballot_in P d (kept_ballot x j d) && stamp_of d (kept_stamp x j d)))
 
 unfoldable pub job_kept_sound : Plan → BoxState → ℕ → Bool
 job_kept_sound P x j = all_below (λ d. kept_sound P x j (district d)) most_districts
@@ -89,7 +90,8 @@ vote_sound P x = pick x.volatile.vote.held (held_sound P x) (unvoted x.volatile.
 -- sound: the plan and the box
 unfoldable pub box_sound : Plan → BoxState → Bool
 box_sound P x =
-    ((range_sound P x && ballots_sound P x) && (table_sound P x && sent_sound P x)) && ((all_kept_sound P x && all_marks_sound P x) && (list_sound P x && vote_sound P x))
+    ((range_sound P x && ballots_sound P x) && (table_sound P x && sent_sound P x))
+    && ((all_kept_sound P x && all_marks_sound P x) && (list_sound P x && vote_sound P x))
 
 unfoldable pub sound : Plan → BoxState → Bool
 sound P x = plan_sound P && box_sound P x

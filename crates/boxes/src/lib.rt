@@ -1,5 +1,7 @@
 // Document 01, 'A box': its fields and what a step of it gives back. The eight kinds, the orders and soundness are defined in specs/.
 // The code looks things up in a box and changes them, one at a time.
+#![tactic(auto)]
+
 mod change;
 mod fresh;
 mod look;
@@ -17,7 +19,7 @@ pub use look::{
 pub use outcomes::{done, refused};
 use records::Answer;
 
-#[derive(Drop)]
+#[derive(Clone, Copy)]
 pub enum Status {
     Follower,
     Leader,
@@ -25,14 +27,14 @@ pub enum Status {
 }
 
 // a job on the delivered list, with its global stamp
-#[derive(Drop)]
+#[derive(Clone, Copy)]
 pub struct Listed {
     pub job: u8,
     pub stamp: Stamp,
 }
 
 // what survives a cut
-#[derive(Drop)]
+#[derive(Clone, Copy)]
 pub struct Core {
     pub own: BoxNo,
     pub status: Status,
@@ -45,7 +47,7 @@ pub struct Core {
     pub list: [Listed; house::JOBS],
 }
 
-#[derive(Drop)]
+#[derive(Clone, Copy)]
 pub struct Vote {
     pub held: bool,
     pub voter: BoxNo,
@@ -55,7 +57,7 @@ pub struct Vote {
 }
 
 // what a cut forgets: the ACCEPT kept for each pair of job and district, the marks, the vote
-#[derive(Drop)]
+#[derive(Clone, Copy)]
 pub struct Volatile {
     pub kept_ballots: [Ballot; house::PAIRS],
     pub kept_stamps: [Stamp; house::PAIRS],
@@ -63,20 +65,20 @@ pub struct Volatile {
     pub vote: Vote,
 }
 
-#[derive(Drop)]
+#[derive(Clone, Copy)]
 pub struct BoxState {
     pub core: Core,
     pub volatile: Volatile,
 }
 
-#[derive(Drop)]
+#[derive(Clone, Copy)]
 pub enum Delivery {
     Nothing,
     Job(u8),
 }
 
 // done: the new box, the bytes and records written, and the job delivered; refused: the same box, 0 bytes, nothing
-#[derive(Drop)]
+#[derive(Clone, Copy)]
 pub struct Outcome {
     pub state: BoxState,
     pub used: usize,

@@ -18,7 +18,7 @@ use house::{BoxNo, Plan};
 use rehearsal::Night;
 
 // what the boxes say of each job, and how long their lines are
-#[derive(Drop)]
+#[derive(Clone, Copy)]
 struct Boxed {
     ends: [JobEnd; house::JOBS],
     used: usize,

@@ -12,14 +12,14 @@ use house::{BoxNo, District, Plan, Row, Stamp};
 use rehearsal::Night;
 
 // where a job is committed: the global stamp at the first box that has it so
-#[derive(Drop)]
+#[derive(Clone, Copy)]
 pub struct Committed {
     pub found: bool,
     pub stamp: Stamp,
 }
 
 // what the boxes say of a job: where it is committed first, and which boxes have it on their lists, as marks
-#[derive(Drop)]
+#[derive(Clone, Copy)]
 pub struct JobEnd {
     pub first: Committed,
     pub holders: u32,

@@ -1,5 +1,7 @@
 // The closing report of a night: its boxes, its jobs, and whether they are finished.
 // The promise, Closed, stands in specs/Promise.antt.
+#![tactic(auto)]
+
 mod closing;
 mod endings;
 

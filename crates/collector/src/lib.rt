@@ -1,5 +1,7 @@
 // The public face of a box: fresh, receive, post, retry, stand, cut. Each judges first, over the box as it is, and answers for every input.
 // The promises stand in specs/Promises.antt, what each does in specs/Step.antt of boxes.
+#![tactic(auto)]
+
 ghost use Rattle.std.specs.Prelude.{◌≡◌};
 ghost use Rattle.boxes.specs.Sound.{sound};
 ghost use Rattle.boxes.specs.Retry.{retries};
@@ -13,7 +15,7 @@ use house::{BoxNo, Plan};
 use records::Answer;
 
 // what a post answers: it has no box
-#[derive(Drop)]
+#[derive(Clone, Copy)]
 pub struct Posted {
     pub answer: Answer,
     pub used: usize,

@@ -1,5 +1,7 @@
 // Document 01, 'Numbers' and 'Orders': stamps, ballots, rows, the plan, marks and quorums, their limits, and the orders.
 // The definitions stand in specs/: Limits, Pairs, Plan, Marks.
+#![tactic(auto)]
+
 mod marks;
 mod pairs;
 mod plans;
@@ -52,32 +54,32 @@ pub const MOST_POST: usize = 65_536;
 
 pub const NO_JOB: u8 = 255;
 
-#[derive(Drop)]
+#[derive(Clone, Copy)]
 pub struct District(pub u8);
 
-#[derive(Drop)]
+#[derive(Clone, Copy)]
 pub struct BoxNo(pub u8);
 
-#[derive(Drop)]
+#[derive(Clone, Copy)]
 pub struct Stamp {
     pub time: u32,
     pub district: District,
 }
 
-#[derive(Drop)]
+#[derive(Clone, Copy)]
 pub struct Ballot {
     pub number: u16,
     pub owner: BoxNo,
 }
 
-#[derive(Drop)]
+#[derive(Clone, Copy)]
 pub struct Row {
     pub phase: u8,
     pub local: Stamp,
     pub global: Stamp,
 }
 
-#[derive(Drop)]
+#[derive(Clone, Copy)]
 pub struct Plan {
     pub districts: u8,
     pub jobs: u8,
@@ -85,7 +87,7 @@ pub struct Plan {
 }
 
 // an order, with the numbers that were typed
-#[derive(Drop)]
+#[derive(Clone, Copy)]
 pub enum Order {
     Post(u32),
     Stand(u32),

@@ -1,5 +1,7 @@
 // A job's way through a box: 1 MULTICAST, 2 ACCEPT, 3 ACCEPT_ACK, 4 DELIVER, post and retry.
 // One module a kind or an order; each definition stands under the same name in specs/ of boxes.
+#![tactic(auto)]
+
 mod accept;
 mod accept_ack;
 mod deliver;

@@ -1,6 +1,7 @@
 -- A codec of fixed width: an element as bytes and back. Rows of it, and the pair of a number and one byte.
 use Rattle.std.specs.Prelude.{ℕ, zero, suc, ◌+◌, ◌*◌, ◌^◌, ◌<◌, ◌≤◌, List, [], ◌∷◌, ◌++◌, ◌≡◌, refl, length, take, drop, get_or}
-use Rattle.std.proofs.Common.{append_assoc, append-nil, sym, ◌∙◌, ap, suc-mul, zero-mul, add_comm, add-one, arith, length-append, length-drop, drop-drop, get_or-drop, take-add, drop_at, take-suc}
+use Rattle.std.proofs.Common.{append_assoc, append-nil, sym, ◌∙◌, ap, suc-mul, zero-mul, add_comm, add-one}
+use Rattle.std.proofs.Common.{arith, length-append, length-drop, drop-drop, get_or-drop, take-add, drop_at, take-suc}
 use Rattle.std.proofs.lemmas.List.{get_or_at}
 use Rattle.laws.specs.Number.{big_end, number, Bytes, big_end_length, number_big_end, big_end_number}
 

@@ -1,5 +1,7 @@
 // How a district changes its leader: stand, 5 NEWLEADER, 6 NEWLEADER_ACK, 7 NEW_STATE, 8 NEWSTATE_ACK.
 // One module a kind; each definition stands under the same name in specs/ of boxes.
+#![tactic(auto)]
+
 mod merge;
 mod new_state;
 mod newleader;

@@ -12,7 +12,7 @@ use house::{Ballot, BoxNo, Plan, Row};
 use records::Ballotpaper;
 
 // what the votes come to: the larger clock and the merged table
-#[derive(Drop)]
+#[derive(Clone, Copy)]
 pub struct Merged {
     pub clock: u32,
     pub table: [Row; house::JOBS],

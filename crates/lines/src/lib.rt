@@ -1,5 +1,7 @@
 // One line as it is typed: its words and numbers, and the plan line or the order that it is.
 // The promises stand in specs/Reads.antt.
+#![tactic(auto)]
+
 mod line;
 mod words;
 
@@ -7,7 +9,7 @@ use house::Order;
 pub use line::{no_line, order_held, order_of_line, push};
 
 // What a line says: a plan line, an order, or a line that cannot be read.
-#[derive(Drop)]
+#[derive(Clone, Copy)]
 pub enum Typed {
     Districts(u32),
     Job(u32),
@@ -16,7 +18,7 @@ pub enum Typed {
 }
 
 // What has come of a line: how many bytes, where 32 stands for more than 31, and the bytes.
-#[derive(Drop)]
+#[derive(Clone, Copy)]
 pub struct LineState {
     pub len: usize,
     pub bytes: [u8; 32],

@@ -1,4 +1,6 @@
 // The post's bytes: its room, where records begin, and writing behind the last. The definitions stand in specs/Posting.antt and specs/Index.antt.
+#![tactic(auto)]
+
 ghost use Rattle.std.specs.Prelude.{◌≡◌, ◌++◌, ◌+◌, ◌≤◌, ◌<◌, length, get_or, take, drop, leb, ltb};
 ghost use Rattle.laws.specs.Tray.{onto};
 ghost use Rattle.laws.specs.Choice.{pick};
@@ -119,5 +121,6 @@ pub fn put_behind(post: &mut [u8], used: usize, bytes: &[u8])
     requires { used + length bytes.now ≤ length post.old }
     ensures { post.new ≡ take used post.old ++ onto bytes.now (drop used post.old) }
 {
-    bytes::copy(bytes, &mut post[used..]);
+    let end = used + bytes.len();
+    post[used..end].copy_from_slice(bytes);
 }

@@ -10,7 +10,7 @@ ghost use Rattle.reader.specs.Head.{head_at};
 use house::{Ballot, BoxNo, District, Row, Stamp};
 
 // what section 1 holds
-#[derive(Drop)]
+#[derive(Clone, Copy)]
 pub struct Head {
     pub kind: u8,
     pub from: BoxNo,

@@ -62,7 +62,8 @@ carried (new_state from to y) =
     record { kind = 7; from = from; to = to; job = no_job; ballots = one_ballot y.ballot; stamps = two_stamps y.clock no_stamp; table = y.table }
 carried (newstate_ack from to b) =
     record { kind = 8; from = from; to = to; job = no_job; ballots = one_ballot b; stamps = two_stamps no_stamp no_stamp; table = no_rows }
-carried unknown = record { kind = 0; from = box_no 0; to = box_no 0; job = no_job; ballots = no_ballots; stamps = two_stamps no_stamp no_stamp; table = no_rows }
+carried unknown =
+    record { kind = 0; from = box_no 0; to = box_no 0; job = no_job; ballots = no_ballots; stamps = two_stamps no_stamp no_stamp; table = no_rows }
 
 -- the struct that carries no record
 abbrev pub no_record : Record

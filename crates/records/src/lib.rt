@@ -1,5 +1,7 @@
 // Document 01, 'Records' and 'Answers': the record as a struct, its format, its meaning, its rules, and the answers.
 // The definitions stand in specs/; a record is written by the room writer and read by the room reader.
+#![tactic(auto)]
+
 mod format;
 
 pub use format::{
@@ -29,7 +31,7 @@ pub const MOST_STAMPS: u8 = 2;
 
 pub const STAMPS: usize = MOST_STAMPS as usize;
 
-#[derive(Drop)]
+#[derive(Clone, Copy)]
 pub struct Record {
     pub kind: u8,
     pub from: BoxNo,
@@ -41,14 +43,14 @@ pub struct Record {
 }
 
 // what an ACCEPT says
-#[derive(Drop)]
+#[derive(Clone, Copy)]
 pub struct Proposal {
     pub ballot: Ballot,
     pub stamp: Stamp,
 }
 
 // what a DELIVER says
-#[derive(Drop)]
+#[derive(Clone, Copy)]
 pub struct Handout {
     pub ballot: Ballot,
     pub local: Stamp,
@@ -56,7 +58,7 @@ pub struct Handout {
 }
 
 // what a NEWLEADER_ACK says
-#[derive(Drop)]
+#[derive(Clone, Copy)]
 pub struct Ballotpaper {
     pub ballot: Ballot,
     pub cballot: Ballot,
@@ -65,7 +67,7 @@ pub struct Ballotpaper {
 }
 
 // what a NEW_STATE says
-#[derive(Drop)]
+#[derive(Clone, Copy)]
 pub struct NewState {
     pub ballot: Ballot,
     pub clock: Stamp,
@@ -73,7 +75,7 @@ pub struct NewState {
 }
 
 // what a call answers: done, or the number of the refusal
-#[derive(Drop)]
+#[derive(Clone, Copy)]
 pub enum Answer {
     Done,
     No(u8),
@@ -117,14 +119,14 @@ pub const NO_SUCH: u8 = 11;
 pub const POST_FULL: u8 = 12;
 
 // what the writer answers: how many bytes it wrote
-#[derive(Drop)]
+#[derive(Clone, Copy)]
 pub struct Written {
     pub answer: Answer,
     pub used: usize,
 }
 
 // what the reader answers: the record, none unless done
-#[derive(Drop)]
+#[derive(Clone, Copy)]
 pub struct ReadOut {
     pub answer: Answer,
     pub rec: Record,

@@ -15,7 +15,7 @@ use boxes::BoxState;
 use house::{Order, Plan};
 
 // which box an order is for, the first if there is none such; where the record begins that it carries; how far the index goes
-#[derive(Drop)]
+#[derive(Clone, Copy)]
 pub struct Place {
     pub at: usize,
     pub start: usize,

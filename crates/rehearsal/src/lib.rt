@@ -1,5 +1,7 @@
 // Document 01, 'The rehearsal': all boxes of a plan and one post, one order at a time.
 // The definition stands in specs/Night.antt, the promises in specs/Promises.antt.
+#![tactic(auto)]
+
 mod exists;
 mod judging;
 mod nights;
@@ -12,7 +14,7 @@ pub use nights::{fresh_night, rehearse};
 pub use settling::{settle, step};
 
 // a night: the boxes, and how many bytes of the post hold records
-#[derive(Drop)]
+#[derive(Clone, Copy)]
 pub struct Night {
     pub boxes: [BoxState; house::MOST_BOXES],
     pub used: usize,

@@ -13,7 +13,7 @@ use house::{BoxNo, Order, Plan};
 use records::{Answer, Record};
 
 // done: how many records were written; refused: the number, and the same night
-#[derive(Drop)]
+#[derive(Clone, Copy)]
 pub struct Turn {
     pub night: Night,
     pub records: u16,

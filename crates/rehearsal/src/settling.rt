@@ -16,7 +16,7 @@ use house::{Order, Plan};
 use records::Record;
 
 // how much of the post is used after a step, and whether its records fit
-#[derive(Drop)]
+#[derive(Clone, Copy)]
 pub struct Settled {
     pub used: usize,
     pub fits: bool,

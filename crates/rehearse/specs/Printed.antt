@@ -1,5 +1,5 @@
 -- Which bytes the program prints for an input: the answers to its lines, one after the other, then the report.
--- In whatever pieces the input comes, the pieces' answers, the last line's and the report are these bytes (`any-pieces`).
+-- In whatever pieces the input comes, the pieces' answers, the last line's and the report are these bytes (`any_pieces`).
 use Rattle.std.specs.Prelude.{ℕ, ◌≡◌, length, replicate}
 use mathlib.Core.List.{List, [], ◌∷◌, ◌++◌, foldl}
 use Rattle.laws.specs.Tray.{onto}

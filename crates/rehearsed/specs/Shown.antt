@@ -32,7 +32,8 @@ pub record IsRehearsal (lent : List ℕ) (chunks : List (List ℕ)) : Type 0 whe
   pub moment : (first rest : List Typed) → lines_in chunks ≡ first ++ rest → stage_of (played lent first) ≡ afterwards (plan_in chunks) lent (asked_by first)
   -- and to each order it answered as the rehearsal does
   pub answer : (first rest : List Typed) (o : Order) → lines_in chunks ≡ first ++ (Given o ∷ rest)
-      → (act (played lent first) (Given o)).text ≡ (played lent first).text ++ answer_shown (plan_in chunks) (afterwards (plan_in chunks) lent (asked_by first)) o
+      → (act (played lent first) (Given o)).text
+      ≡ (played lent first).text ++ answer_shown (plan_in chunks) (afterwards (plan_in chunks) lent (asked_by first)) o
 
 -- what holds of it
 pub record Shown (lent : List ℕ) (chunks : List (List ℕ)) : Type 0 where

@@ -1,5 +1,7 @@
 // What the program writes: answers, and the lines of the closing report.
 // Their spelling stands in specs/Texts.antt and specs/Report.antt.
+#![tactic(auto)]
+
 mod ends;
 mod text;
 

@@ -11,7 +11,9 @@ pub fn put(bytes: &[u8], t: &mut [u8]) -> usize
     requires { length bytes.now ≤ length t.old }
     ensures { (result ≡ length bytes.now) × (t.new ≡ onto bytes.now t.old) }
 {
-    bytes::copy(bytes, t)
+    let n = bytes.len();
+    t[..n].copy_from_slice(bytes);
+    n
 }
 
 // One of two texts.

@@ -1,5 +1,7 @@
 // Whether a record is valid under a plan: the record rules, kind by kind.
 // The definition, valid, stands in specs/Rules.antt of records.
+#![tactic(auto)]
+
 mod kinds;
 mod parties;
 mod rows;

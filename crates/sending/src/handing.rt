@@ -15,7 +15,7 @@ use boxes::Core;
 use house::{Ballot, BoxNo, Plan, Row};
 
 // the sent flags after handing out, and what was written
-#[derive(Drop)]
+#[derive(Clone, Copy)]
 pub struct Handed {
     pub sent: [bool; house::JOBS],
     pub used: usize,

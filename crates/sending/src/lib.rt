@@ -1,5 +1,7 @@
 // What a step sends: records drafted, written into the tray, and ready jobs handed out.
 // The definitions stand in specs/ of boxes, what the tray then holds in specs/Sends.antt.
+#![tactic(auto)]
+
 mod draft;
 mod handing;
 mod ready;
@@ -14,7 +16,7 @@ pub use ready::is_open;
 pub use sends::{done_sending, send};
 
 // how many bytes and records were written
-#[derive(Drop)]
+#[derive(Clone, Copy)]
 pub struct Sent {
     pub used: usize,
     pub records: u16,

@@ -9,7 +9,7 @@ use crate::{Session, draw, turn};
 use rehearsal::Night;
 
 // the session after some input, and how many bytes of text it gave
-#[derive(Drop)]
+#[derive(Clone, Copy)]
 pub struct Fed {
     pub session: Session,
     pub used: usize,

@@ -18,7 +18,7 @@ use records::{Answer, Record};
 
 // the desk after a line and how many bytes of text it gave; of an order, whether its box is sound, whether it goes, and the record that the
 // box then takes or sends
-#[derive(Drop)]
+#[derive(Clone, Copy)]
 pub struct Heard {
     pub rec: Record,
     pub desk: Desk,

@@ -1,5 +1,7 @@
 // A session: the plan typed, orders rehearsed, each line answered, the input in any pieces.
 // The promises stand in specs/Promises.antt.
+#![tactic(auto)]
+
 mod draw;
 mod feed;
 mod hear;
@@ -11,7 +13,7 @@ use lines::LineState;
 use rehearsal::Night;
 
 // the plan so far; whether its `districts` line has come, and whether an order has
-#[derive(Drop)]
+#[derive(Clone, Copy)]
 pub struct Desk {
     pub plan: Plan,
     pub drawn: bool,
@@ -26,7 +28,7 @@ pub const CHUNK: usize = 2048;
 pub const CHUNK_ROOM: usize = ANSWER_ROOM * CHUNK;
 
 // the line that is coming, the plan and the night
-#[derive(Drop)]
+#[derive(Clone, Copy)]
 pub struct Session {
     pub night: Night,
     pub desk: Desk,

@@ -18,7 +18,7 @@ use boxes::BoxState;
 use lines::{LineState, Typed};
 
 // the line after some bytes, and the place of the LF that ends it, or the end of the bytes
-#[derive(Drop)]
+#[derive(Clone, Copy)]
 struct Scan {
     line: LineState,
     at: usize,
@@ -26,7 +26,7 @@ struct Scan {
 
 // what comes in a chunk from a place on: the line that is then coming, and the place behind. Of a line that ended: what it says,
 // its box, where the record begins that it carries; how far the index goes
-#[derive(Drop)]
+#[derive(Clone, Copy)]
 pub struct Asked {
     pub line: LineState,
     pub typed: Typed,
@@ -38,7 +38,7 @@ pub struct Asked {
 }
 
 // an order is done: how much of the post is used, how many bytes of text it gave, and whether its records fit
-#[derive(Drop)]
+#[derive(Clone, Copy)]
 struct Finished {
     used: usize,
     text: usize,
@@ -47,7 +47,7 @@ struct Finished {
 
 // an order is carried out or refused: the state that its box came to, and whether this is the box's new one; the plan; how much of the post is
 // used, how many bytes of text it gave; and whether the box, as it was, is known to be sound
-#[derive(Drop)]
+#[derive(Clone, Copy)]
 pub struct Turned {
     pub state: BoxState,
     pub desk: Desk,

@@ -1,5 +1,5 @@
 -- The delivered list, place by place, over the array alone.
-use Rattle.core.specs.Prelude.{Bool, not, ◌&&◌, ◌||◌, ◌==◌}
+use Rattle.std.specs.Prelude.{Bool, not, ◌&&◌, ◌||◌, ◌==◌}
 use Rattle.laws.specs.Choice.{pick}
 use Rattle.house.specs.Pairs.{stamp_lt, is_no_stamp}
 use Rattle.house.specs.declared.District.{District}

@@ -1,5 +1,5 @@
 -- Kept ACCEPTs, marks and the vote, over the arrays and numbers alone.
-use Rattle.core.specs.Prelude.{ℕ, Bool, ◌&&◌, ◌||◌, ◌==◌}
+use Rattle.std.specs.Prelude.{ℕ, Bool, ◌&&◌, ◌||◌, ◌==◌}
 use Rattle.laws.specs.Fold.{all_below}
 use Rattle.house.specs.Pairs.{district, is_no_ballot, is_no_stamp, stamp_of}
 use Rattle.house.specs.declared.District.{District}

@@ -1,6 +1,8 @@
 // Whether a box is sound: answer 1.
 // The definition, sound, stands in specs/Sound.antt of boxes.
-mod core;
+#![tactic(auto)]
+
+mod core_part;
 mod sound;
 mod volatile;
 

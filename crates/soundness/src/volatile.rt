@@ -1,6 +1,6 @@
 // The volatile part of a sound box: kept ACCEPTs, marks and votes.
 // What each function means stands in specs/Sound.antt of boxes.
-ghost use Rattle.core.specs.Prelude.{◌≡◌};
+ghost use Rattle.std.specs.Prelude.{◌≡◌};
 ghost use Rattle.boxes.specs.Sound.{all_kept_sound, all_marks_sound, unvoted, vote_sound};
 ghost use Rattle.soundness.specs.Pairs.{pair_sound, unnamed_below, job_marks_sound};
 

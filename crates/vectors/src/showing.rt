@@ -2,6 +2,7 @@
 // Nothing here asks the rules of a record: what is none is told by its own numbers.
 use house::{Ballot, Row, Stamp};
 use records::{Answer, Record};
+use std::io;
 
 pub fn answer_no(a: Answer) -> u64 {
     match a {
@@ -11,96 +12,92 @@ pub fn answer_no(a: Answer) -> u64 {
 }
 
 // a space, and 0 for done or the number of the refusal
-pub fn show_answer(a: Answer) {
-    io::write_all(1, b" ");
-    io::print_decimal(1, answer_no(a));
-}
-
-fn show_digits(b: u8) {
-    io::print_hex(1, b as u64, 2);
+pub fn show_answer(rt: &impl Print, a: Answer) -> io::Result<()> {
+    let no = answer_no(a);
+    print!(rt; " {no}")
 }
 
 // a space, and the byte
-fn show_byte(b: u8) {
-    io::write_all(1, b" ");
-    show_digits(b);
+fn show_byte(rt: &impl Print, b: u8) -> io::Result<()> {
+    print!(rt; " {b:02x}")
 }
 
 // a space, and the bytes with nothing between them
-pub fn show_bytes(s: &[u8]) {
-    io::write_all(1, b" ");
-    for i in 0..s.len() {
-        show_digits(s[i]);
+pub fn show_bytes(rt: &impl Print, s: &[u8]) -> io::Result<()> {
+    print!(rt; " ")?;
+    for b in s {
+        print!(rt; "{b:02x}")?;
     }
+    Ok(())
 }
 
 // a ballot behind its place, unless it is none
-fn show_ballot(place: u8, b: Ballot) {
+fn show_ballot(rt: &impl Print, place: u8, b: Ballot) -> io::Result<()> {
     let number = b.number;
     let owner = b.owner.0;
     if (number == 0) & (owner == 0) {
-        return;
+        return Ok(());
     }
-    show_byte(place);
-    io::write_all(1, b" ");
-    io::print_hex(1, number as u64, 4);
-    show_byte(owner);
+    show_byte(rt, place)?;
+    print!(rt; " {number:04x}")?;
+    show_byte(rt, owner)
 }
 
 fn no_stamp(s: Stamp) -> bool {
     (s.time == 0) & (s.district.0 == 0)
 }
 
-fn show_both(s: Stamp) {
-    io::write_all(1, b" ");
-    io::print_hex(1, s.time as u64, 8);
-    show_byte(s.district.0);
+fn show_both(rt: &impl Print, s: Stamp) -> io::Result<()> {
+    let time = s.time;
+    print!(rt; " {time:08x}")?;
+    show_byte(rt, s.district.0)
 }
 
 // a stamp behind its place, unless it is none
-fn show_stamp(place: u8, s: Stamp) {
+fn show_stamp(rt: &impl Print, place: u8, s: Stamp) -> io::Result<()> {
     if no_stamp(s) {
-        return;
+        return Ok(());
     }
-    show_byte(place);
-    show_both(s);
+    show_byte(rt, place)?;
+    show_both(rt, s)
 }
 
 // a row behind its place, unless it is none
-fn show_row(place: u8, row: Row) {
+fn show_row(rt: &impl Print, place: u8, row: Row) -> io::Result<()> {
     let local = row.local;
     let global = row.global;
     if (row.phase == 0) & no_stamp(local) & no_stamp(global) {
-        return;
+        return Ok(());
     }
-    show_byte(place);
-    show_byte(row.phase);
-    show_both(local);
-    show_both(global);
+    show_byte(rt, place)?;
+    show_byte(rt, row.phase)?;
+    show_both(rt, local)?;
+    show_both(rt, global)
 }
 
-fn show_rows(table: [Row; 64]) {
+fn show_rows(rt: &impl Print, table: [Row; 64]) -> io::Result<()> {
     for i in 0..64u8 {
         let at = i as usize;
         let row = table[at];
-        show_row(i, row);
+        show_row(rt, i, row)?;
     }
+    Ok(())
 }
 
 // kind, from, to, job, and every place of the struct that is not none
-pub fn show_record(r: Record) {
+pub fn show_record(rt: &impl Print, r: Record) -> io::Result<()> {
     let ballots = r.ballots;
     let stamps = r.stamps;
     let table = r.table;
-    show_byte(r.kind);
-    show_byte(r.from.0);
-    show_byte(r.to.0);
-    show_byte(r.job);
-    show_ballot(0xb0, ballots[0]);
-    show_ballot(0xb1, ballots[1]);
-    show_ballot(0xb2, ballots[2]);
-    show_ballot(0xb3, ballots[3]);
-    show_stamp(0xc0, stamps[0]);
-    show_stamp(0xc1, stamps[1]);
-    show_rows(table);
+    show_byte(rt, r.kind)?;
+    show_byte(rt, r.from.0)?;
+    show_byte(rt, r.to.0)?;
+    show_byte(rt, r.job)?;
+    show_ballot(rt, 0xb0, ballots[0])?;
+    show_ballot(rt, 0xb1, ballots[1])?;
+    show_ballot(rt, 0xb2, ballots[2])?;
+    show_ballot(rt, 0xb3, ballots[3])?;
+    show_stamp(rt, 0xc0, stamps[0])?;
+    show_stamp(rt, 0xc1, stamps[1])?;
+    show_rows(rt, table)
 }

@@ -1,5 +1,7 @@
 // Records written as bytes: write_record.
 // Its promise, RecordWritten, stands in specs/Outcome.antt of records.
+#![tactic(auto)]
+
 mod put;
 mod write;
 

@@ -82,7 +82,8 @@ finished_says P n j k e d h m =
 
 -- and a job on such lists is finished
 pub finished_is : (P : Plan) (n : Night) (j k : ℕ)
-    → ((d : ℕ) → d < k → names P j (district d) ≡ true → (i : ℕ) × (i < size_of P) × (on_list (box_in n (d * size_of P + i)) j ≡ true)) → finished P n j k ≡ true
+    → ((d : ℕ) → d < k → names P j (district d) ≡ true → (i : ℕ) × (i < size_of P) × (on_list (box_in n (d * size_of P + i)) j ≡ true))
+    → finished P n j k ≡ true
 unfolding finished done_in listed_in
 finished_is P n j k f = all_is (done_in P n j) k (λ d h. go d h (look (names P j (district d))))
   where

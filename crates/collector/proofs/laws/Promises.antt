@@ -44,7 +44,8 @@ one_post P j before a b =
 -- ---- a post as the code makes it
 
 pub job_posted : {P : Plan} {j : ℕ} {before : List ℕ} {p : Posted} {after : List ℕ} → p.answer ≡ may_post P j (length before)
-    → p.used ≡ length (encode_all P (posted_records P j (may_post P j (length before)))) → p.records ≡ length (posted_records P j (may_post P j (length before)))
+    → p.used ≡ length (encode_all P (posted_records P j (may_post P j (length before))))
+    → p.records ≡ length (posted_records P j (may_post P j (length before)))
     → after ≡ onto (encode_all P (posted_records P j (may_post P j (length before)))) before → JobPosted P j before p after
 unfolding may_post
 job_posted {P} {j} {before} a u n t = record { answer = answered_of (post_no P j (length before)) a; used = u; records = n; tray = t }

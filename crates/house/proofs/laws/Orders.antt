@@ -8,7 +8,8 @@ use Rattle.laws.proofs.laws.Choice.{and_left, and_right, and_both}
 use Rattle.laws.specs.Lex.{Order}
 use Rattle.laws.proofs.laws.Lex.{lex_order, lex_rank}
 use Rattle.house.specs.Limits.{most_time, most_number}
-use Rattle.house.specs.Pairs.{district, box_no, no_stamp, no_ballot, stamp_lt, ballot_lt, same_stamp, same_ballot, is_no_stamp, is_no_ballot, time_fits, real_stamp}
+use Rattle.house.specs.Pairs.{district, box_no, no_stamp, no_ballot, stamp_lt, ballot_lt, same_stamp}
+use Rattle.house.specs.Pairs.{same_ballot, is_no_stamp, is_no_ballot, time_fits, real_stamp}
 use Rattle.house.specs.Pairs.{real_ballot, stamp_of, ballot_of}
 use Rattle.house.specs.declared.Stamp.{Stamp}
 use Rattle.house.specs.declared.District.{District}

@@ -109,7 +109,8 @@ quorums_meet P d a b ha hb =
     cut : ℕ → ℕ
     cut m = part m (d.0 * size_of P) (size_of P)
 
-    enough : (m : ℕ) → leb (majority (size_of P)) (ones (cut m)) ≡ true → majority (size_of P) ≤ Rattle.laws.proofs.laws.Majority.count (flags (size_of P) (cut m))
+    enough : (m : ℕ) → leb (majority (size_of P)) (ones (cut m)) ≡ true
+        → majority (size_of P) ≤ Rattle.laws.proofs.laws.Majority.count (flags (size_of P) (cut m))
     enough m h =
         let e = flags_ones (size_of P) (cut m) (part_low m (d.0 * size_of P) (size_of P)) in
         let k = leb-true (majority (size_of P)) (ones (cut m)) h in

@@ -19,7 +19,8 @@ use Rattle.house.specs.declared.District.{District}
 use Rattle.house.specs.declared.BoxNo.{BoxNo}
 use Rattle.house.specs.declared.Ballot.{Ballot}
 use Rattle.house.specs.declared.Stamp.{Stamp}
-use Rattle.house.specs.Plan.{size_of, boxes_of, home_of, is_box, is_job, same_home, mask_of, names, ballot_in, none_or_in, stamp_named, mask_sound, counts_sound}
+use Rattle.house.specs.Plan.{size_of, boxes_of, home_of, is_box, is_job, same_home, mask_of}
+use Rattle.house.specs.Plan.{names, ballot_in, none_or_in, stamp_named, mask_sound, counts_sound}
 use Rattle.house.specs.Plan.{masks_sound, plan_sound}
 use Rattle.house.specs.declared.Plan.{Plan}
 

@@ -65,7 +65,8 @@ module _ (P : Plan) (d : District) (m : ℕ) (p : BoxNo) (low : p.0 < most_marks
 
   flags_set : cut_flags (marked m p) ≡ set (cut_flags m) place true
   flags_set =
-      ext_get_or false (cut_flags (marked m p)) (set (cut_flags m) place true) (flags_long (marked m p) ∙ sym (length-set (cut_flags m) place true ∙ flags_long m))
+      ext_get_or false (cut_flags (marked m p)) (set (cut_flags m) place true) (flags_long (marked m p)
+      ∙ sym (length-set (cut_flags m) place true ∙ flags_long m))
       (λ i h. at i (rw (flags_long (marked m p)) at h) (ℕ_discrete i place))
     where
       at : (i : ℕ) → i < size_of P → Dec (i ≡ place) → get_or (cut_flags (marked m p)) i false ≡ get_or (set (cut_flags m) place true) i false

@@ -62,7 +62,7 @@ module _ {P : Plan} {x : BoxState} (S : SoundBox P x) where
 
   -- a leader's cballot is real and its own
   pub leads_real : is_leader x.core.status ≡ true → 1 ≤ x.core.cballot.number
-  leads_real e = (ballot_of_says (own_of x) x.core.cballot (S.ballots.leader e)).0.Some-number
+  leads_real e = (ballot_of_says (own_of x) x.core.cballot (S.ballots.leader e)).0.some_number
 
   pub leads_own : is_leader x.core.status ≡ true → x.core.cballot.owner ≡ own_of x
   leads_own e = (ballot_of_says (own_of x) x.core.cballot (S.ballots.leader e)).1
@@ -78,7 +78,8 @@ module _ {P : Plan} {x : BoxState} (S : SoundBox P x) where
   local_home m l n = (stamp_of_says (home_in P x) (row_in x.core.table m).local (row_begun (S.table.row m (in_table m l)) n).1).1
 
   -- a kept ACCEPT: its ballot is of a box of the district
-  pub owner_home : (j : ℕ) (d : District) → j < most_jobs → d.0 < most_districts → is_no_ballot (kept_ballot x j d) ≡ false → home_of P (kept_ballot x j d).owner ≡ d
+  pub owner_home : (j : ℕ) (d : District) → j < most_jobs → d.0 < most_districts → is_no_ballot (kept_ballot x j d) ≡ false
+      → home_of P (kept_ballot x j d).owner ≡ d
   unfolding kept_ballot kept_stamp
   owner_home j d lj ld n = go (S.kept.pair j d.0 lj ld)
     where
@@ -128,7 +129,7 @@ deliver_says P from to j y h =
     let b = ballot_of_says from y.ballot o.own_ballot in
     record {
       near = near o.near;
-      real = b.0.Some-number;
+      real = b.0.some_number;
       mine = b.1;
       until = record { says = (both_say P j (home_of P from) y.local y.global o.stamps).order };
     }
@@ -152,7 +153,7 @@ pub vote_says : (P : Plan) (from to : BoxNo) (y : Ballotpaper) → rules P (newl
 vote_says P from to y h =
     let o = rules_say P (newleader_ack from to y) h in
     let b = ballot_of_says to y.ballot o.its_ballot in
-    record { near = near o.near; real = b.0.Some-number; theirs = b.1; most = λ m l. row_most (o.table.row m l) }
+    record { near = near o.near; real = b.0.some_number; theirs = b.1; most = λ m l. row_most (o.table.row m l) }
 
 pub record StateFacts (P : Plan) (from to : BoxNo) (y : NewState) : Type 0 where
   pub apart : Apart P from to
@@ -163,7 +164,7 @@ pub state_says : (P : Plan) (from to : BoxNo) (y : NewState) → rules P (new_st
 state_says P from to y h =
     let o = rules_say P (new_state from to y) h in
     let b = ballot_of_says from y.ballot o.own_ballot in
-    record { apart = apart o.other; real = b.0.Some-number; mine = b.1 }
+    record { apart = apart o.other; real = b.0.some_number; mine = b.1 }
 
 pub record NsaFacts (P : Plan) (from to : BoxNo) (b : Ballot) : Type 0 where
   pub apart : Apart P from to
@@ -174,4 +175,4 @@ pub nsa_says : (P : Plan) (from to : BoxNo) (b : Ballot) → rules P (newstate_a
 nsa_says P from to b h =
     let o = rules_say P (newstate_ack from to b) h in
     let k = ballot_of_says to b o.its_ballot in
-    record { apart = apart o.other; real = k.0.Some-number; theirs = k.1 }
+    record { apart = apart o.other; real = k.0.some_number; theirs = k.1 }

@@ -237,7 +237,8 @@ module _ (P : Plan) (x : BoxState) (known : (own_of x).0 < boxes_of P) (long : l
           go (yes e) = rw (e, get_or-set_same l j true false inside)
           go (no e) = rw (get_or-set_other l j m true false e) (g e)
 
-      set_for : (m : ℕ) → get_or (set l j true) m false ≡ true → Dec (m ≡ j) → (sent_at x m ≡ true) ⊎ In (deliver (own_of x) (own_of x) m (handout x m)) (s ++ goes)
+      set_for : (m : ℕ) → get_or (set l j true) m false ≡ true → Dec (m ≡ j)
+          → (sent_at x m ≡ true) ⊎ In (deliver (own_of x) (own_of x) m (handout x m)) (s ++ goes)
       set_for m h (yes e) = inr (in_right s goes (rw e own_goes))
       set_for m h (no e) = old (T.set_for m (rw (get_or-set_other l j m true false e) at h))
         where

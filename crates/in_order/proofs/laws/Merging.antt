@@ -13,7 +13,6 @@ use lib.ListN.{length, length-set, length-map}
 use lib.Seq.{get_or-set_same, get_or-set_other}
 use borrow.Author.Tests.{eqb-true, eq-eqb}
 use Rattle.laws.proofs.laws.Choice.{never, pick_when, pick_true, pick_false, and_left, and_right, and_both}
-use Rattle.laws.specs.Fold.{upto}
 use Rattle.laws.specs.Place.{In}
 use Rattle.laws.proofs.laws.Place.{in_nil, in_head, in_tail, in_one, in_map}
 use Rattle.laws.specs.Lex.{larger}
@@ -108,7 +107,8 @@ pub data From (vs : List Vote) (j : ℕ) (r : Row) : Type 0 where
 
 pub merged_from : (vs : List Vote) (j : ℕ) → From vs j (merged_row vs j)
 unfolding merged_row committed_at accepted_at vote_row
-merged_from vs j = go (first_is (committed_at j) j vs (first_row (accepted_at (top_ballot vs) j) j vs no_row)) (first_is (accepted_at (top_ballot vs) j) j vs no_row)
+merged_from vs j = go (first_is (committed_at j) j vs (first_row (accepted_at (top_ballot vs) j) j vs no_row))
+    (first_is (accepted_at (top_ballot vs) j) j vs no_row)
   where
     go : First (committed_at j) j vs (first_row (accepted_at (top_ballot vs) j) j vs no_row) (merged_row vs j)
         → First (accepted_at (top_ballot vs) j) j vs no_row (first_row (accepted_at (top_ballot vs) j) j vs no_row) → From vs j (merged_row vs j)
@@ -223,8 +223,8 @@ pub record Stands (P : Plan) (l : List Rec) (b : Ballot) (v : Vote) : Type 0 whe
 module _ (P : Plan) (l : List Rec) (y : NewState) (old new : Vote) (plan : plan_sound P ≡ true)
     (enough : quorum_of P ≤ votes_count old)
     (stands_new : Stands P l y.ballot new) (stands_old : old.held ≡ true → Stands P l y.ballot old)
-    (new_box : new.voter.0 < boxes_of P) (new_Home : home_of P new.voter ≡ home_of P y.ballot.owner)
-    (old_box : old.held ≡ true → old.voter.0 < boxes_of P) (old_Home : old.held ≡ true → home_of P old.voter ≡ home_of P y.ballot.owner)
+    (new_box : new.voter.0 < boxes_of P) (new_home : home_of P new.voter ≡ home_of P y.ballot.owner)
+    (old_box : old.held ≡ true → old.voter.0 < boxes_of P) (old_home : old.held ≡ true → home_of P old.voter ≡ home_of P y.ballot.owner)
     (apart : old.held ≡ true → old.voter ≢ new.voter)
     (clock : y.clock.time ≡ top_clock (votes_with old new))
     (rows : (m : ℕ) → m < P.jobs → row_in y.table m ≡ merged_row (votes_with old new) m) where
@@ -263,7 +263,7 @@ module _ (P : Plan) (l : List Rec) (y : NewState) (old new : Vote) (plan : plan_
             (voters vs)
             (λ u. AVoter P l y (top_ballot vs) u)
             plan
-            (votes_different P (home_of P y.ballot.owner) old new vs shape new_box new_Home old_box old_Home apart)
+            (votes_different P (home_of P y.ballot.owner) old new vs shape new_box new_home old_box old_home apart)
             (omega (arith, voters_long vs, votes_long old new vs shape))
             (λ u i.
             let z = in_map (λ (v : Vote). v.voter) vs i in

@@ -20,12 +20,11 @@ use Rattle.records.specs.declared.Handout.{Handout}
 use Rattle.records.specs.declared.Ballotpaper.{Ballotpaper}
 use Rattle.records.specs.declared.NewState.{NewState}
 use Rattle.boxes.specs.Box.{is_leader, is_recovering, own_of, home_in, row_at, kept_ballot, marks_at, last_stamp, on_list, put_marks, put_vote}
-use Rattle.boxes.specs.Sound.{sound}
 use Rattle.boxes.specs.Out.{to_home}
 use Rattle.boxes.specs.Ready.{hand_out}
 use Rattle.boxes.specs.Multicast.{proposed, accepts}
 use Rattle.boxes.specs.Accept.{kept, all_kept, accepted, acks}
-use Rattle.boxes.specs.AcceptAck.{agree, enough, committed}
+use Rattle.boxes.specs.AcceptAck.{enough, committed}
 use Rattle.boxes.specs.Deliver.{delivered}
 use Rattle.boxes.specs.Newleader.{joined, vote_for}
 use Rattle.boxes.specs.NewleaderAck.{vote_of, votes_with, votes_count, new_states}

@@ -33,7 +33,6 @@ use Rattle.records.specs.Rec.{newstate_ack, unknown, carried, addressee_of}
 use Rattle.records.proofs.laws.Rec.{meaning_carried}
 use Rattle.records.specs.Rules.{rules}
 use Rattle.boxes.specs.Box.{home_in, row_at, kept_ballot, last_stamp}
-use Rattle.boxes.specs.Sound.{sound}
 use Rattle.boxes.specs.Out.{Out, refused, does, guard}
 use Rattle.boxes.specs.Multicast.{proposed, accepts, on_multicast}
 use Rattle.boxes.specs.Accept.{ballot_fits, when_kept, on_accept}

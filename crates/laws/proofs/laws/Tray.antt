@@ -39,7 +39,8 @@ unfolding onto
 onto_onto x y t = rw (take-append_seam, drop-append_seam, length-append, drop-drop, append_assoc)
 
 -- l is t with x over its front, and m, what came home of l[n..], is that part with y over its front
-pub behind : (x y t l m : List ℕ) (n : ℕ) → n ≡ length x → l ≡ onto x t → m ≡ onto y (mid_of n (length l - n) l) → put_mid n (length l - n) l m ≡ onto (x ++ y) t
+pub behind : (x y t l m : List ℕ) (n : ℕ) → n ≡ length x → l ≡ onto x t → m ≡ onto y (mid_of n (length l - n) l)
+    → put_mid n (length l - n) l m ≡ onto (x ++ y) t
 behind x y t l m n en el em =
     rw (
       em,

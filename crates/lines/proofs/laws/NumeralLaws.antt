@@ -36,7 +36,8 @@ number_nine l h =
     leb-true (length l) 9 (and_right (leb 1 (length l)) (leb (length l) 9) (and_left (leb 1 (length l) && leb (length l) 9) (all_digits l) h))
 
 -- what holds of one digit, and of the digits of n / 10 with one behind, holds of the digits of n
-in_digits_lem : (Q : List ℕ → Type 0) (f n : ℕ) → (n < 10 → Q ((48 + n) ∷ [])) → (10 ≤ n → Q (in_digits f (n / 10) ++ ((48 + n % 10) ∷ []))) → Q (in_digits (suc f) n)
+in_digits_lem : (Q : List ℕ → Type 0) (f n : ℕ) → (n < 10 → Q ((48 + n) ∷ [])) → (10 ≤ n → Q (in_digits f (n / 10) ++ ((48 + n % 10) ∷ [])))
+    → Q (in_digits (suc f) n)
 unfolding in_digits
 in_digits_lem Q f n p q = pick_when Q (ltb n 10) (λ e. p (ltb-true n 10 e)) (λ e. q (ltb-false n 10 e))
 

@@ -1,5 +1,5 @@
 -- The definition of a line's order and the promise of the line reader say the same:
--- `line_read` and `read-line` lead from one to the other.
+-- `line_read` and `read_line` lead from one to the other.
 use Prim.Native.Nat.{ℕ, ◌<◌}
 use mathlib.Core.Bool.{Bool, true, false, ◌&&◌}
 use mathlib.Core.List.{List, [], ◌∷◌}

@@ -1,7 +1,7 @@
 -- Laws of what specs/Posting.antt defines.
 use Prim.Native.Nat.{ℕ, zero, suc, ◌+◌, ◌-◌, ◌≤◌}
 use mathlib.Core.Bool.{true, false}
-use mathlib.Core.List.{List, ◌++◌, append-nil}
+use mathlib.Core.List.{List, ◌++◌}
 use mathlib.Core.Logic.{◌⊎◌, inl, inr}
 use mathlib.Core.Path.{◌≡◌, refl, sym, ap, ◌∙◌}
 use native.Mathlib.Omega.{arith}
@@ -9,7 +9,7 @@ use lib.ListN.{length, take, drop, length-drop, drop_of_length-le}
 use lib.Seq.{take_all, take-nil, drop-length}
 use lib.Dec.{ltb}
 use borrow.Author.Tests.{le-ltb, ltb-false}
-use borrow.Rule.Slice.PartMut.{mid_of, put_mid}
+use borrow.Rule.Slice.PartMut.{put_mid}
 use Rattle.laws.specs.Choice.{pick}
 use Rattle.laws.proofs.laws.Choice.{pick_true, pick_false, pick_when, look}
 use Rattle.laws.proofs.laws.Fold.{upto_step}
@@ -55,15 +55,9 @@ walk_stays P s used at zero h = refl
 walk_stays P s used at (suc k) h = ap (next_start P s used) (walk_stays P s used at k h) ∙ pick_false (at + length_at P s at) at (le-ltb at used h)
 
 -- bytes written behind what is used
-pub put_behind : (s bs m : List ℕ) (n : ℕ) → n ≤ length s → m ≡ onto bs (mid_of n (length s - n) s)
-    → put_mid n (length s - n) s m ≡ take n s ++ onto bs (drop n s)
-put_behind s bs m n h e =
-    rw (
-      e,
-      take_all (length s - n) (drop n s) (rw length-drop (omega arith)),
-      drop_of_length-le (drop n s) {i = length s - n} (rw length-drop (omega arith)),
-      append-nil,
-    )
+pub put_behind : (s bs : List ℕ) (n : ℕ) → put_mid n ((n + length bs) - n) s bs ≡ take n s ++ onto bs (drop n s)
+unfolding onto
+put_behind s bs n = let e : (n + length bs) - n ≡ length bs = omega arith in rw e
 
 -- the part of a post that holds the record at a place, whichever the place
 pub part_from : (s : List ℕ) (at n from end : ℕ) → from ≡ pick (ltb at (length s)) at (length s) → end ≡ pick (ltb (at + n) (length s)) (at + n) (length s)

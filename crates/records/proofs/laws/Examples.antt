@@ -6,7 +6,8 @@ use lib.ListN.{replicate}
 use Rattle.laws.specs.Choice.{pick}
 use Rattle.laws.specs.Digits.{digit}
 use Rattle.laws.specs.Fold.{all_below}
-use Rattle.house.specs.Pairs.{stamp, ballot, box_no, stamp_lt, ballot_lt, same_stamp, same_ballot, is_no_stamp, is_no_ballot, time_fits, real_stamp, real_ballot, stamp_of}
+use Rattle.house.specs.Pairs.{stamp, ballot, box_no, stamp_lt, ballot_lt, same_stamp, same_ballot}
+use Rattle.house.specs.Pairs.{is_no_stamp, is_no_ballot, time_fits, real_stamp, real_ballot, stamp_of}
 use Rattle.house.specs.Pairs.{ballot_of}
 use Rattle.house.specs.Plan.{size_of, boxes_of, is_box, is_office, is_job, home_of, same_home, mask_of, names, ballot_in, none_or_in, stamp_named}
 use Rattle.house.specs.declared.Plan.{Plan}

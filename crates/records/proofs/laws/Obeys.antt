@@ -180,7 +180,8 @@ ballots_say P j bs n h = record { place = λ d l. on d (all_says (ballot_for P j
     on d e (inr n) =
         for_other
         n
-        (no_ballot_says (get_or bs d no_ballot) (rw (pick_false (ballot_in P (district d) (get_or bs d no_ballot)) (is_no_ballot (get_or bs d no_ballot)) n) at e))
+        (no_ballot_says (get_or bs d no_ballot)
+        (rw (pick_false (ballot_in P (district d) (get_or bs d no_ballot)) (is_no_ballot (get_or bs d no_ballot)) n) at e))
 
 vector_whole : (P : Plan) (j : ℕ) (bs : List Ballot) → plan_sound P ≡ true → BallotsFor P j bs P.districts → spare_ballots bs P.districts ≡ true
     → Vector P j bs

@@ -85,13 +85,22 @@ every_stays P x (does y l d) (a_step K) h = sound_is P y K.fine.sound
 
 -- a step that keeps the box sound goes
 module _ {P : Plan} {used : ℕ} {x : BoxState} {s : List ℕ} {o : Order} {r : Record} where
-  pub goes_kept : plan_sound P ≡ true → exists P (here used) s o ≡ true → Can P x o r → was_done (step_of P x o r) ≡ true → acts_on P used x s o ≡ step_of P x o r
+  pub goes_kept : plan_sound P ≡ true → exists P (here used) s o ≡ true → Can P x o r → was_done (step_of P x o r) ≡ true
+      → acts_on P used x s o ≡ step_of P x o r
       → Every (Keeps P x) (acts_on P used x s o)
       → Goes P used x s o r
   goes_kept p h c d e K =
       let K' : Every (Keeps P x) (step_of P x o r) = rw (← e) K in
-      record
-      { plan_is_sound = p; there = h; can = c; done = d; fits = every_fits K'; is = acts_on_lem P used x s o r p h e; stays = every_stays P x (step_of P x o r) K' }
+      record {
+        plan_is_sound = p;
+        there = h;
+        can = c;
+        done = d;
+        fits = every_fits K';
+        is = acts_on_lem P used x s o r p h e;
+        stays =
+            every_stays P x (step_of P x o r) K';
+      }
 
   -- the answer is that of its box
   pub answers : plan_sound P ≡ true → exists P (here used) s o ≡ true → (a : Answer) → acts_on P used x s o ≡ under a (step_of P x o r)

@@ -72,9 +72,10 @@ module _ {lent : List ℕ} {done : List Order} {w : World} (K : Keeps lent done 
 keeps_all : {lent : List ℕ} {done : List Order} {w : World} → Keeps lent done w → (lines : List Typed)
     → Keeps lent (done ++ asked_by lines) (foldl act w lines)
 unfolding asked_by
-keeps_all K [] = keeps_nil K
-keeps_all {lent} {done} {w} K (o ∷ lines) =
-    subst (λ (l : List Order). Keeps lent l (foldl act (act w o) lines)) (append_assoc done (asked o) (asked_by lines)) (keeps_all (keeps_act K o) lines)
+keeps_all {lent} {done = done} {w = w} K [] = keeps_nil K
+keeps_all {lent} {done = done} {w = w} K (o ∷ lines) =
+    subst (λ (l : List Order). Keeps lent l (foldl act (act w o) lines)) (append_assoc done (asked o) (asked_by lines))
+    (keeps_all {done = done ++ asked o} {w = act w o} (keeps_act K o) lines)
 
 keeps_played : (lent : List ℕ) (lines : List Typed) → Keeps lent (asked_by lines) (played lent lines)
 unfolding rehearsed beginning
@@ -101,6 +102,7 @@ session lent first rest = go (look (desk_of first).fixed)
     desk : (played lent first).desk ≡ desk_of first
     desk = desk_played lent first
 
-    go : ((desk_of first).fixed ≡ true) ⊎ ((desk_of first).fixed ≡ false) → stage_of (played lent first) ≡ afterwards (plan_of (first ++ rest)) lent (asked_by first)
+    go : ((desk_of first).fixed ≡ true) ⊎ ((desk_of first).fixed ≡ false)
+        → stage_of (played lent first) ≡ afterwards (plan_of (first ++ rest)) lent (asked_by first)
     go (inl e) = K.stage ∙ ap (λ (P : Plan). afterwards P lent (asked_by first)) (ap (λ (d : Desk). d.plan) desk ∙ sym (plan_fixed first rest e))
     go (inr e) = K.stage ∙ any_plan _ (plan_of (first ++ rest)) lent (asked_by first) (K.none (ap (λ (d : Desk). d.fixed) desk ∙ e))

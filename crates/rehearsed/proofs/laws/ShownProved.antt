@@ -43,7 +43,8 @@ module _ (lent : List ℕ) (chunks : List (List ℕ)) where
       }
     where
       answers : (first rest : List Typed) (o : Order) → lines_in chunks ≡ first ++ (Given o ∷ rest)
-          → (act (played lent first) (Given o)).text ≡ (played lent first).text ++ answer_shown (plan_in chunks) (afterwards (plan_in chunks) lent (asked_by first)) o
+          → (act (played lent first) (Given o)).text
+          ≡ (played lent first).text ++ answer_shown (plan_in chunks) (afterwards (plan_in chunks) lent (asked_by first)) o
       answers first rest o e =
           let P = ap (λ (d : Desk). d.plan) (desk_played lent first) ∙ sym (ap plan_of e ∙ plan_before first o rest) in
           let Q = moments first (Given o ∷ rest) e in

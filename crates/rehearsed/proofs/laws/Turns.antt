@@ -82,9 +82,11 @@ fits_passes : (P : Plan) (n : Night) (s : List ℕ) (x : BoxState) (l : List Rec
     → fitting P n s (does x l d) ≡ does x l d
 unfolding fitting guard
 fits_passes P n s x l d h =
-    rw (or_right (eqb (length (encode_all P l)) 0) (leb (n.used + length (encode_all P l)) (room_of s)) (le-leb (n.used + length (encode_all P l)) (room_of s) h))
+    rw (or_right (eqb (length (encode_all P l)) 0) (leb (n.used + length (encode_all P l)) (room_of s))
+    (le-leb (n.used + length (encode_all P l)) (room_of s) h))
 
-fits_fails : (P : Plan) (n : Night) (s : List ℕ) (x : BoxState) (l : List Rec) (d : Delivery) → n.used ≤ room_of s → room_of s < n.used + length (encode_all P l)
+fits_fails : (P : Plan) (n : Night) (s : List ℕ) (x : BoxState) (l : List Rec) (d : Delivery) → n.used ≤ room_of s
+    → room_of s < n.used + length (encode_all P l)
     → fitting P n s (does x l d) ≡ refused 12
 unfolding fitting guard
 fits_fails P n s x l d u h =

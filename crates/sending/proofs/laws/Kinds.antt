@@ -33,7 +33,8 @@ module _ (P : Plan) (s : plan_sound P ≡ true) (to : BoxNo) where
       → Sends P (acks P x j) (marks_of (kept_leader P x j) (boxes_of P)) (carried (accept_ack (own_of x) to j (kept_vector P x j)))
   unfolding addressed carried acks
   acks_sent x j =
-      each_sends P s (kept_leader P x j) (λ p. accept_ack (own_of x) p j (kept_vector P x j)) (carried (accept_ack (own_of x) to j (kept_vector P x j))) (λ p. refl)
+      each_sends P s (kept_leader P x j) (λ p. accept_ack (own_of x) p j (kept_vector P x j))
+      (carried (accept_ack (own_of x) to j (kept_vector P x j))) (λ p. refl)
 
   pub delivers_sent : (x : BoxState) (j : ℕ) (y : Handout)
       → Sends P (to_home P x (λ p. deliver (own_of x) p j y)) (home_boxes P (own_of x)) (carried (deliver (own_of x) to j y))

@@ -159,7 +159,8 @@ many g l h =
     let x : (leb 1 P.jobs && leb P.jobs most_jobs) ≡ false = rw c in
     let y : (leb 1 (length l) && leb (length l) most_jobs) ≡ false = rw (le-leb 1 (length l) (omega arith), lt-leb (length l) most_jobs h) in
     first_fails (leb 1 P.districts && leb P.districts most_districts) (leb 1 P.jobs && leb P.jobs most_jobs) (masks_sound P P.jobs) x
-    ∙ sym (first_fails (leb 1 g && leb g most_districts) (leb 1 (length l) && leb (length l) most_jobs) (all_below (λ j. mask_sound g (get_or l j 0)) (length l)) y)
+    ∙ sym (first_fails (leb 1 g && leb g most_districts) (leb 1 (length l)
+    && leb (length l) most_jobs) (all_below (λ j. mask_sound g (get_or l j 0)) (length l)) y)
 
 pub sound_as_typed : (g : ℕ) (masks : List ℕ) → plan_sound (typed g masks).plan ≡ typed_sound g masks
 unfolding typed

@@ -1,5 +1,5 @@
 -- Laws of what specs/Pairs.antt defines.
-use Rattle.core.specs.Prelude.{◌≡◌, ℕ, zero, suc, ◌+◌, ◌*◌, ◌/◌, ◌%◌, ◌^◌, ◌<◌, Bool, true, ◌&&◌, ◌||◌, eqb, List, get_or}
+use Rattle.std.specs.Prelude.{◌≡◌, ℕ, zero, suc, ◌+◌, ◌*◌, ◌/◌, ◌%◌, ◌^◌, ◌<◌, Bool, true, ◌&&◌, ◌||◌, eqb, List, get_or}
 use mathlib.Core.Bool.{and-true, and_assoc}
 use mathlib.Core.Path.{refl, ap, ◌∙◌}
 use native.Mathlib.Nat.{add-zero, add-suc, zero-mul, suc-mul}

@@ -48,7 +48,8 @@ write_read P s room b h e =
     (rw (e, w, p), rw (e, w, p))
 
 -- one spelling of a record
-pub one_spelling : (P : Plan) (s t : List ℕ) → Bytes s → Bytes t → (reads P s).answer ≡ Done → (reads P t).answer ≡ Done → (reads P s).rec ≡ (reads P t).rec → s ≡ t
+pub one_spelling : (P : Plan) (s t : List ℕ) → Bytes s → Bytes t → (reads P s).answer ≡ Done → (reads P t).answer ≡ Done
+    → (reads P s).rec ≡ (reads P t).rec → s ≡ t
 unfolding reads read_record
 one_spelling P s t b c e f q =
     let x = read_says P s e in let y = read_says P t f in

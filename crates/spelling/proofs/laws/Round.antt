@@ -128,7 +128,19 @@ module _ (P : Plan) (r : Record) (sound : plan_sound P ≡ true) (A : Arrays r) 
   unfolding parse
   parse_encode =
       let t = rw append-nil at (rows_back []) in
-      rw (kind_at, from_at, to_at, job_at, at_ballots, behind_stamps, behind_rows, ballots_back (stamp_bytes r ++ row_bytes P r), stamps_back (row_bytes P r), t)
+      rw (
+        kind_at,
+        from_at,
+        to_at,
+        job_at,
+        at_ballots,
+        behind_stamps,
+        behind_rows,
+        ballots_back (stamp_bytes r
+            ++ row_bytes P r),
+        stamps_back (row_bytes P r),
+        t,
+      )
 
   pub encode_shaped : shaped P (encode P r) ≡ true
   encode_shaped = shape_is P (encode P r) (rw kind_at here)

@@ -151,7 +151,8 @@ fits_each {P} meant f s G h =
 
 -- to the boxes of one district, of any kind
 pub fits_home : {P : Plan} {from : BoxNo} (meant : BoxNo → Bool) (f : BoxNo → Rec) (d : District) → plan_sound P ≡ true → AllGood P from (to_each P meant f)
-    → ((p : BoxNo) → meant p ≡ true → home_of P p ≡ d) → ((to : BoxNo) → size_of_rec P (f to) ≤ 723) → length (encode_all P (to_each P meant f)) ≤ longest_output
+    → ((p : BoxNo) → meant p ≡ true → home_of P p ≡ d) → ((to : BoxNo) → size_of_rec P (f to) ≤ 723)
+    → length (encode_all P (to_each P meant f)) ≤ longest_output
 fits_home {P} meant f d s G k h =
     let r = fits_few 723 (size_of P) (to_each P meant f) s G (home_most P meant f d k) (λ m i. let z = in_each P meant f i in rw z.is (h (box_no z.box))) in
     omega (arith, size_most P)

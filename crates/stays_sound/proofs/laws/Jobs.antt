@@ -32,7 +32,8 @@ use Rattle.records.specs.Bytes.{encode_all}
 use Rattle.records.specs.Rules.{both_stamps}
 use Rattle.boxes.specs.Box.{is_leader, own_of, home_in, row_at, listed_at, kept_ballot, kept_stamp, marks_at, last_stamp, on_list, raised}
 use Rattle.boxes.specs.Multicast.{proposed, accepts, on_multicast}
-use Rattle.boxes.specs.Accept.{same_kept, kept, kept_below, all_kept, latest_kept, accepted_row, accepted, kept_for, kept_vector, kept_leader, acks, when_kept, on_accept}
+use Rattle.boxes.specs.Accept.{same_kept, kept, kept_below, all_kept, latest_kept, accepted_row, accepted}
+use Rattle.boxes.specs.Accept.{kept_for, kept_vector, kept_leader, acks, when_kept, on_accept}
 use Rattle.boxes.specs.AcceptAck.{agree_below, agree, enough, committed, when_marked, on_accept_ack}
 use Rattle.boxes.specs.Deliver.{delivered, on_deliver}
 use Rattle.boxes.specs.declared.BoxState.{BoxState}

@@ -92,7 +92,7 @@ module _ (P : Plan) (os : List Order) where
   final_then : (h : Handed) → At posted h.place (written_as h) → FinalStamp P (os ++ []) h.job h.global
   final_then h e = record { first = os; rest = []; split = refl; shows = shows h e }
 
-  -- `list-rises` is false: on the list of box p the stamp at place k is not below the one at place i
+  -- `list_rises` is false: on the list of box p the stamp at place k is not below the one at place i
   pub falling_list : (p k i n : ℕ) (s t : Stamp)
       →
       ◌≡◌
@@ -109,7 +109,7 @@ module _ (P : Plan) (os : List Order) where
       omega arith
 
   module _ (a c : Handed) where
-    -- `one-stamp` is false: one job is handed out with two stamps
+    -- `one_stamp` is false: one job is handed out with two stamps
     pub two_stamps_lem : at_both posted a c ≡ written_both a c → a.job ≡ c.job → stamp_lt a.global c.global ≡ true → OneStamp P → ⊥
     two_stamps_lem e same l d =
         let there : FinalStamp P (os ++ []) c.job c.global = final_then c (ap (λ r. r.1) e) in
@@ -118,14 +118,14 @@ module _ (P : Plan) (os : List Order) where
         let z : ◌≡◌ {A = ℕ} 0 1 = cc in
         omega arith
 
-    -- `own-stamp` is false: two jobs are handed out with one stamp
+    -- `own_stamp` is false: two jobs are handed out with one stamp
     pub shared_stamp : at_both posted a c ≡ written_both a c → a.global ≡ c.global → a.job < c.job → OwnStamp P → ⊥
     shared_stamp e same l d =
         let there : FinalStamp P (os ++ []) c.job c.global = final_then c (ap (λ r. r.1) e) in
         let eq = d os [] a.job c.job a.global (final a (ap (λ r. r.0) e)) (rw same there) in
         omega arith
 
-    -- `handed-before` is false: when the first is handed out, the second, with a smaller stamp, was not given to box q before in this ballot
+    -- `handed_before` is false: when the first is handed out, the second, with a smaller stamp, was not given to box q before in this ballot
     pub out_of_turn : (q : BoxNo)
         → ◌≡◌ {A = (Option Rec × Option Rec) × Bool} (at_both posted a c, any_before posted a.place q c.job a.ballot) (written_both a c, false)
         → stamp_lt c.global a.global ≡ true

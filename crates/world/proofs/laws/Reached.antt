@@ -150,8 +150,8 @@ reached_step {P} {w} R o = finish_reached R (whose w o) (given P w o) (given_tur
 
 pub reached_run : {P : Plan} {w : World} → Reached P w → (os : List Order) → Reached P (run P w os)
 unfolding run
-reached_run R [] = R
-reached_run R (o ∷ os) = reached_run (reached_step R o) os
+reached_run {P = P} {w = w} R [] = R
+reached_run {P = P} {w = w} R (o ∷ os) = reached_run {P = P} {w = step P w o} (reached_step R o) os
 
 -- any orders, from fresh boxes and an empty post
 pub reached : (P : Plan) → plan_sound P ≡ true → (os : List Order) → Reached P (run P (new P) os)

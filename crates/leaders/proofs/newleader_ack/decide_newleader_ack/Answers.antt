@@ -1,0 +1,12 @@
+-- `leaders::newleader_ack::decide_newleader_ack` meets its contract.
+use mathlib.Core.Path.{◌∙◌}
+use Rattle.leaders.proofs.newleader_ack.decide_newleader_ack.Goals as goal
+
+pub returns : goal.returns
+returns c =
+    let in_order_says = c.in_order.ensures in
+    let voted_by_says = c.voted_by-voted.ensures in
+    let same_ballot2_says = c.same_ballot-merged.ensures in
+    let same_ballot_says = c.same_ballot-same.ensures in
+    let is_recovering_says = c.is_recovering-recovering.ensures in
+    in_order_says ∙ rw (voted_by_says, same_ballot2_says, same_ballot_says, is_recovering_says)
