@@ -1,28 +1,33 @@
-"""What the kit's compiler makes of a program's sources as they stand, without a proof. For stack and run."""
+"""What the kit's clang is given of a proved program, and how it is called. For stack."""
 import os
-import re
 import shutil
 import subprocess
 import sys
 
 ROOT = os.path.dirname(os.path.dirname(os.path.abspath(__file__)))
-KIT = os.environ.get("RATTLE_HOME") or os.path.dirname(os.path.dirname(os.path.realpath(shutil.which("rt"))))
-OWN = os.path.join(KIT, "on", os.uname().machine)
-CLANG = os.path.join(OWN, "toolchain", "bin", "clang")
+KIT = os.path.dirname(os.path.dirname(os.path.realpath(shutil.which("rt"))))
+TOOLS = os.path.join(KIT, "toolchain")
+CLANG = os.path.join(TOOLS, "bin", "clang")
 
 
-def rooms_below(room):
-    """The rooms and libraries that a room rests on, however far below, as crates.txt says: lowest first."""
-    rests = {}
-    for line in open(os.path.join(ROOT, "crates.txt")):
+def rests(tree):
+    """Each room of a tree and what it rests on, as crates.txt says."""
+    found = {}
+    for line in open(os.path.join(tree, "crates.txt")):
         if ":" in line and not line.startswith("#"):
-            rests[line.split(":")[0]] = line.split(":")[1].split()
-    if room not in rests:
+            room, below = line.split(":")
+            found[room] = below.split()
+    return found
+
+
+def rooms_below(room, tree=ROOT):
+    """The rooms and libraries that a room rests on, however far below: lowest first."""
+    lines, found = rests(tree), []
+    if room not in lines:
         sys.exit("crates.txt has no %s" % room)
-    found = []
 
     def visit(name):
-        for below in rests.get(name, []):
+        for below in lines.get(name, []):
             if below not in found:
                 visit(below)
                 found.append(below)
@@ -32,30 +37,38 @@ def rooms_below(room):
 
 
 def clang_that_tells(work):
-    """A copy of the kit's toolchain whose clang keeps what it was given."""
+    """A copy of the kit's toolchain, by links, whose clang keeps what it was given."""
     tools = os.path.join(work, "tools")
     if not os.path.isdir(tools):
         os.makedirs(os.path.join(tools, "bin"))
-        for name in os.listdir(os.path.join(OWN, "toolchain")):
+        for name in os.listdir(TOOLS):
             if name != "bin":
-                os.symlink(os.path.join(OWN, "toolchain", name), os.path.join(tools, name))
-        for name in os.listdir(os.path.join(OWN, "toolchain", "bin")):
+                os.symlink(os.path.join(TOOLS, name), os.path.join(tools, name))
+        for name in os.listdir(os.path.join(TOOLS, "bin")):
             if name != "clang":
-                os.symlink(os.path.join(OWN, "toolchain", "bin", name), os.path.join(tools, "bin", name))
+                os.symlink(os.path.join(TOOLS, "bin", name), os.path.join(tools, "bin", name))
         with open(os.path.join(tools, "bin", "clang"), "w") as f:
             f.write('#!/bin/sh\ncase " $* " in *" -O3 "*) cp module.bc "%s/last.bc" && echo "$@" >"%s/words" ;; esac\nexec "%s" "$@"\n' % (work, work, CLANG))
         os.chmod(os.path.join(tools, "bin", "clang"), 0o755)
     return tools
 
 
-def intermediate(work, main, crate, libraries):
-    """The compiler's intermediate text of a program before any of its passes, as work/module.bc, and the words that compile it."""
-    words = [os.path.join(OWN, "bin", "rattle-cases"), "--toolchain", clang_that_tells(work), main, "--crate-name", crate]
-    for name in ["std"] + libraries:
-        own = os.path.join(ROOT, "crates", name, "src", "lib.rt")
-        words += ["--lib", "%s=%s" % (name, own if os.path.exists(own) else "%s/libs/%s/src/lib.rt" % (KIT, name))]
-    told = subprocess.run(words, stdin=subprocess.DEVNULL, capture_output=True, text=True)
-    if not os.path.exists(os.path.join(work, "last.bc")):
+def intermediate(work, tree, program):
+    """The intermediate text of a program of a tree before any of clang's passes, as work/module.bc, and the words that compile it."""
+    room, own = os.path.join(tree, "crates", program), rests(tree)
+    # proves it, and leaves the rooms below it built
+    told = subprocess.run(["rt", "run"], cwd=room, stdin=subprocess.DEVNULL, capture_output=True, text=True)
+    if told.returncode:
+        sys.exit(told.stdout + told.stderr)
+    words = [os.path.join(KIT, "bin", "rattle"), "build", "--crate-name", program, "src/main.rt", "-L", "dependency=%s/rlibs" % KIT]
+    for below in ["std"] + rooms_below(program, tree):
+        place = "%s/crates/%s/out/rlib" % (tree, below) if below in own else "%s/rlibs" % KIT
+        words += ["-L", "dependency=" + place] if below in own else []
+        words += ["--extern", "%s=%s/%s.rlib" % (below, place, below)] if below in ["std"] + own[program] else []
+    words += ["--antt-project", "%s/rattle/logic/antt-project.json" % KIT, "--logic-built", "%s/logic_built" % KIT, "--links", program + "=",
+              "--incremental", "out/incremental", "--toolchain", clang_that_tells(work), "--backend", "llvm", "-o", os.path.join(work, "program.o")]
+    told = subprocess.run(words, cwd=room, stdin=subprocess.DEVNULL, capture_output=True, text=True)
+    if told.returncode or not os.path.exists(os.path.join(work, "last.bc")):
         sys.exit(told.stdout + told.stderr)
     words = open(os.path.join(work, "words")).read().split()
     target = [w for w in words if w.startswith("--target=")]
@@ -63,19 +76,3 @@ def intermediate(work, main, crate, libraries):
                    cwd=work, check=True, capture_output=True)
     os.remove(os.path.join(work, "last.bc"))
     return os.path.join(work, "module.bc"), words
-
-
-def program():
-    return os.path.join(ROOT, "crates", "rehearse", "src", "main.rt"), "rehearse", rooms_below("rehearse")
-
-
-def for_this_machine(work):
-    """The rehearse program compiled for a machine that is not x86-64, where the built one runs in an emulator only."""
-    text, _ = intermediate(work, *program())
-    code = re.sub(r"(?m)^target (triple|datalayout).*$", "", open(text).read())
-    code = re.sub(r'"target-(cpu|features)"="[^"]*"', "", code)
-    with open(text, "w") as f:
-        f.write(code)
-    subprocess.run([CLANG, "-O3", "-Wno-override-module", "-c", "-x", "ir", "module.bc", "-o", "module.o"], cwd=work, check=True)
-    subprocess.run(["gcc", "-o", os.path.join(work, "rehearse"), os.path.join(work, "module.o")], check=True)
-    return os.path.join(work, "rehearse")

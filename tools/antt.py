@@ -6,29 +6,32 @@ START = re.compile(r"^((?:(?:unfoldable|abbrev) )*)(pub )?(data |record )?(\S+)(
 NESTED = re.compile(r"^(?:  (?=\S)|\s+(?=(?:unfoldable |abbrev )*pub ))(?:unfoldable |abbrev )*(?:pub )?(?:data |record )?(\S+)(?: .*)? :")
 
 
+LIBRARIES = ("lib", "mathlib", "native", "borrow")
+
+
 def words_of(text):
-    """The words of a text; of a qualified one the parts too; a projection, ` .field`, is no word."""
+    """The words of a text; of a qualified one the parts too; a projection, as in `r.field` or `(f x).field`, is no word."""
     found = set()
-    for word in re.split(r"[\s(){},;⌜⌝]+", re.sub(r"--.*", "", text)):
+    for word in re.split(r"[\s(){},;]+", re.sub(r"--.*", "", text)):
         if word and not word.startswith("."):
-            found.add(word)
-            found |= set(filter(None, word.split(".")))
+            first, *parts = word.split(".")
+            found |= {word, first}
+            # a module's name begins with a capital letter, and so does that of a plan or a codec, of one letter
+            if first in LIBRARIES or first[:1].isupper() and len(first) > 1:
+                found |= set(filter(None, parts))
     return found
 
 
 def uses_name(words, name):
-    """A name stands among the words; of an operator each part does."""
-    if name in words:
-        return True
-    parts = [p for p in name.split("_") if p]
-    return "_" in name and bool(parts) and all(p in words for p in parts)
+    """A name stands among the words; of an operator, as ◌≡◌, each part does."""
+    return name in words or "◌" in name and all(p in words for p in name.split("◌") if p)
 
 
 def parse_use(line):
     """The module, the names (None for a whole one) and the alias of an import."""
     some = re.match(r"^use (\S+?)\.\{(.*)\}$", line)
     if some:
-        return some.group(1), [x.strip() for x in some.group(2).split(",")], None
+        return some.group(1), [x.strip() for x in some.group(2).split(",") if x.strip()], None
     whole = re.match(r"^use (\S+)(?: as (\S+))?$", line)
     return whole.group(1), None, whole.group(2)
 
@@ -73,10 +76,17 @@ class Module:
         lines = text.rstrip("\n").split("\n")
         while lines and lines[0].startswith("--"):
             self.head.append(lines.pop(0))
-        item, comment = None, []
+        item, comment, names = None, [], None
         for line in lines:
-            if line.startswith("use "):
-                self.uses.append(line)
+            if names is not None:
+                # an import of several lines
+                names += line.strip()
+            elif line.startswith("use "):
+                names = line
+            if names is not None:
+                if "{" not in names or "}" in names:
+                    self.uses.append(names)
+                    names = None
             elif line.startswith(("pub mod ", "mod ")):
                 continue
             elif not line.strip():
@@ -108,11 +118,13 @@ class Module:
 
 
 class Tree:
-    """All antt files below crates/, by their paths."""
+    """All antt files below crates/, by their paths; what rt made in out/ is none of them."""
 
     def __init__(self, root):
         self.modules = {}
-        for base, _, names in os.walk(f"{root}/crates"):
+        for base, folders, names in os.walk(f"{root}/crates"):
+            if os.path.dirname(base) == f"{root}/crates":
+                folders[:] = [x for x in folders if x != "out"]
             for name in sorted(names):
                 if name.endswith(".antt"):
                     path = f"{base}/{name}"
