@@ -8,6 +8,7 @@ use boxes::BoxState;
 use house::Plan;
 
 // the first tests that fail end it
+#[tactic(auto, unfolding(boxes::specs::Sound::sound, boxes::specs::Sound::box_sound))]
 pub fn is_sound(plan: Plan, x: BoxState) -> bool
     ensures { result ≡ sound plan x }
 {

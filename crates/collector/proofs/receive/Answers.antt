@@ -1,14 +1,9 @@
 -- `collector::receive` meets its contract.
 use Rattle.collector.proofs.laws.Face.{two_go, refusing, receives_refused}
-use Rattle.steps.specs.Judging.{Judging}
 use Rattle.boxes.proofs.laws.Sound.{sound_plan}
 use Rattle.boxes.proofs.laws.Promise.{stepped}
-use Rattle.boxes.specs.Sound.{sound}
-use Rattle.house.specs.Limits.{least_tray}
-use Prim.Native.Nat.{◌≤◌}
 use lib.ListN.{length}
-use mathlib.Core.Bool.{true}
-use mathlib.Core.Path.{◌≡◌, sym, ◌∙◌}
+use mathlib.Core.Path.{sym, ◌∙◌}
 use Rattle.collector.proofs.receive.Goals as goal
 
 pub returns-in-No : goal.returns-in-No
@@ -20,44 +15,33 @@ returns-in-No c =
 pub read_bytes-got-requires : goal.read_bytes-got-requires
 read_bytes-got-requires c =
     let a = c.args in
-    let admitted : (sound a.plan a.x ≡ true) × (least_tray ≤ length a.tray.now) =
-    two_go _ c.is_sound-known.ensures (sym c.admit-first.ensures ∙ c.in_default.is) in
-    sound_plan a.plan a.x (admitted).0
+    let admitted = two_go _ c.is_sound-known.ensures (sym c.admit-first.ensures ∙ c.in_default.is) in
+    sound_plan a.plan a.x admitted.0
 
 pub judge_read-answer-requires : goal.judge_read-answer-requires
 judge_read-answer-requires c =
     let a = c.args in
     let read_bytes_says = c.read_bytes-got.ensures in
-    let admitted : (sound a.plan a.x ≡ true) × (least_tray ≤ length a.tray.now) =
-    two_go _ c.is_sound-known.ensures (sym c.admit-first.ensures ∙ c.in_default.is) in
-    ((admitted).0, (a.bytes.now, read_bytes_says))
+    let admitted = two_go _ c.is_sound-known.ensures (sym c.admit-first.ensures ∙ c.in_default.is) in
+    (admitted.0, (a.bytes.now, read_bytes_says))
 
 pub returns-in-No-answer : goal.returns-in-No-answer
 returns-in-No-answer c =
-    let a = c.args in
-    let admitted : (sound a.plan a.x ≡ true) × (least_tray ≤ length a.tray.now) =
-    two_go _ c.is_sound-known.ensures (sym c.admit-first.ensures ∙ c.in_default.is) in
-    let judging : Judging a.plan a.x a.bytes.now c.judge_read-answer.result c.read_bytes-got.result.rec =
-    c.judge_read-answer.ensures _ c.read_bytes-got.ensures in
-    refusing c.refused-in-No-answer.ensures ((judging).refuse _ c.in-No-answer.is _ (admitted).1)
+    let admitted = two_go _ c.is_sound-known.ensures (sym c.admit-first.ensures ∙ c.in_default.is) in
+    let judging = c.judge_read-answer.ensures _ c.read_bytes-got.ensures in
+    refusing c.refused-in-No-answer.ensures (judging.refuse _ c.in-No-answer.is _ admitted.1)
 
 pub act-requires : goal.act-requires
 act-requires c =
-    let a = c.args in
     let d = c.in_default-answer.is in
-    let admitted : (sound a.plan a.x ≡ true) × (least_tray ≤ length a.tray.now) =
-    two_go _ c.is_sound-known.ensures (sym c.admit-first.ensures ∙ c.in_default.is) in
-    let judging : Judging a.plan a.x a.bytes.now c.judge_read-answer.result c.read_bytes-got.result.rec =
-    c.judge_read-answer.ensures _ c.read_bytes-got.ensures in
-    (((judging).go d _ (admitted).1).1, (judging).done d)
+    let admitted = two_go _ c.is_sound-known.ensures (sym c.admit-first.ensures ∙ c.in_default.is) in
+    let judging = c.judge_read-answer.ensures _ c.read_bytes-got.ensures in
+    ((judging.go d _ admitted.1).1, judging.done d)
 
 pub returns : goal.returns
 returns c =
-    let a = c.args in
     let q = c.act.ensures in
-    let admitted : (sound a.plan a.x ≡ true) × (least_tray ≤ length a.tray.now) =
-    two_go _ c.is_sound-known.ensures (sym c.admit-first.ensures ∙ c.in_default.is) in
-    let judging : Judging a.plan a.x a.bytes.now c.judge_read-answer.result c.read_bytes-got.result.rec =
-    c.judge_read-answer.ensures _ c.read_bytes-got.ensures in
-    let e = ((judging).go c.in_default-answer.is _ (admitted).1).0 in
+    let admitted = two_go _ c.is_sound-known.ensures (sym c.admit-first.ensures ∙ c.in_default.is) in
+    let judging = c.judge_read-answer.ensures _ c.read_bytes-got.ensures in
+    let e = (judging.go c.in_default-answer.is _ admitted.1).0 in
     stepped (rw e q.0) (rw e q.1)

@@ -40,7 +40,7 @@ overflow_cast-index c =
     let if1_taken = c.if-n-index.true in
     let v = c.next_start-next.result in
     let a = c.args in
-    let l = c.loop-n in let g = goes_on l.n (length l.index) (get_or l.index l.n 0) v a.used (if1_taken) in
+    let l = c.loop-n in let g = goes_on l.n (length l.index) (get_or l.index l.n 0) v a.used if1_taken in
     omega (arith, g.3)
 
 pub bounds-index-n-in-loop-n : goal.bounds-index-n-in-loop-n
@@ -48,7 +48,7 @@ bounds-index-n-in-loop-n c =
     let if1_taken = c.if-n-index.true in
     let v = c.next_start-next.result in
     let a = c.args in
-    let l = c.loop-n in (goes_on l.n (length l.index) (get_or l.index l.n 0) v a.used (if1_taken)).0
+    let l = c.loop-n in (goes_on l.n (length l.index) (get_or l.index l.n 0) v a.used if1_taken).0
 
 pub loop-n-preserved : goal.loop-n-preserved
 loop-n-preserved c =
@@ -56,7 +56,7 @@ loop-n-preserved c =
     let a = c.args in
     let l = c.loop-n in
     let q = c.next_start-next in let v = q.result in let at = get_or l.index l.n 0 in let u = a.used in
-    let g = goes_on l.n (length l.index) at v u (if1_taken) in (
+    let g = goes_on l.n (length l.index) at v u if1_taken in (
       indexed_more a.plan a.s.now u l.index l.n l.invariant.0 at v g.0 refl g.1 q.ensures.0 g.2,
       omega (arith, l.invariant.1),
       length-set l.index (l.n + 1) v ∙ l.invariant.2,

@@ -13,7 +13,7 @@ returns-then-want-count c =
     let a = c.args in
     let asked = c.requires in
     let f = c.type_inv.index a.k in
-    (asked.starts a.k (if1_taken), omega (arith, f))
+    (asked.starts a.k if1_taken, omega (arith, f))
 
 pub start_from-requires : goal.start_from-requires
 start_from-requires c =

@@ -12,7 +12,7 @@ returns-then-at-used c =
     let length_of_says = c.length_of.ensures in
     let byte_at_says = c.byte_at-kind.ensures in
     let if1_taken = c.if-at-used.true in
-    (rw (length_of_says.0, byte_at_says) (sym (pick_true _ _ (lt-ltb _ _ (if1_taken)))), omega (arith, length_of_says.1))
+    (rw (length_of_says.0, byte_at_says) (sym (pick_true _ _ (lt-ltb _ _ if1_taken))), omega (arith, length_of_says.1))
 
 pub returns : goal.returns
 unfolding next_start

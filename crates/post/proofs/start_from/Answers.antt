@@ -21,7 +21,7 @@ returns-then-used-at c =
     let l = c.loop-i in
     let P = a.plan in let s = a.s.now in let u = a.used in let m = a.k - l.i in
     let e : l.i + m ≡ a.k = omega (arith, l.invariant.0) in
-    let y : l.at ≡ walk_from P s u l.at m = sym (walk_stays P s u l.at m (if1_taken)) in
+    let y : l.at ≡ walk_from P s u l.at m = sym (walk_stays P s u l.at m if1_taken) in
     let w : l.at ≡ walk_from P s u a.from (l.i + m) = y ∙ ap (λ (z : ℕ). walk_from P s u z m) l.invariant.1 ∙ walk_more P s u a.from l.i m in
     (w ∙ ap (walk_from P s u a.from) e, omega (arith, l.invariant.2, l.invariant.0, l.invariant.3, l.invariant.4))
 

@@ -17,3 +17,6 @@ head_behind s e =
     e
     ∙ ap head_at (rest_of 1 s)
     ∙ (λ i. record { kind = get_or-drop 1 s 0 0 i; from = box_no (get_or-drop 1 s 1 0 i); to = box_no (get_or-drop 1 s 2 0 i); job = get_or-drop 1 s 3 0 i })
+
+pub kind_behind : (s : List ℕ) {h : Head} → h ≡ head_at (take (length s - 1) (drop 1 s)) → h.kind ≡ get_or s 1 0
+kind_behind s e = ap (λ (h : Head). h.kind) (head_behind s e)

@@ -19,13 +19,13 @@ pub overflow_sub-turns : goal.overflow_sub-turns
 overflow_sub-turns c =
     let if1_taken = c.loop-turns-test.true in
     let goes_on_result = c.goes_on.result in
-    let l = c.loop-turns in ltb-true 0 l.turns (and_left (ltb 0 l.turns) (goes_on_result) (if1_taken))
+    let l = c.loop-turns in ltb-true 0 l.turns (and_left (ltb 0 l.turns) goes_on_result if1_taken)
 
 pub loop-turns-smaller : goal.loop-turns-smaller
 loop-turns-smaller c =
     let if1_taken = c.loop-turns-test.true in
     let goes_on_result = c.goes_on.result in
-    let l = c.loop-turns in let t = ltb-true 0 l.turns (and_left (ltb 0 l.turns) (goes_on_result) (if1_taken)) in omega (arith, t)
+    let l = c.loop-turns in let t = ltb-true 0 l.turns (and_left (ltb 0 l.turns) goes_on_result if1_taken) in omega (arith, t)
 
 pub loop-turns-preserved : goal.loop-turns-preserved
 loop-turns-preserved c =
@@ -33,8 +33,8 @@ loop-turns-preserved c =
     let l = c.loop-turns in
     let g = c.goes_on in
     let o = c.one_turn-g in
-    let t = ltb-true 0 l.turns (and_left (ltb 0 l.turns) g.result (if1_taken)) in
-    let m : l.next ≡ More = says_more l.next (sym g.ensures ∙ and_right (ltb 0 l.turns) g.result (if1_taken)) in
+    let t = ltb-true 0 l.turns (and_left (ltb 0 l.turns) g.result if1_taken) in
+    let m : l.next ≡ More = says_more l.next (sym g.ensures ∙ and_right (ltb 0 l.turns) g.result if1_taken) in
     (search rules, turn_more l.invariant.1 m o.ensures, turn_less l.invariant.1 m o.ensures l.turns most_turns t l.invariant.2)
 
 pub returns : goal.returns
@@ -49,5 +49,5 @@ returns c =
           ⊎_elim
           (λ t. let z = ltb-false 0 l.turns t in inr (omega (arith, z, l.invariant.2)))
           (λ t. inl (sym g.ensures ∙ t))
-          (and_fails (ltb 0 l.turns) g.result (if1_left));
+          (and_fails (ltb 0 l.turns) g.result if1_left);
     }

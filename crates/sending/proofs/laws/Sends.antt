@@ -11,7 +11,7 @@ use Rattle.laws.proofs.laws.Choice.{pick_true, pick_false, pick_ap}
 use Rattle.laws.specs.Fold.{upto}
 use Rattle.laws.proofs.laws.Fold.{upto_step}
 use Rattle.laws.specs.Tray.{all_for}
-use Rattle.laws.proofs.laws.Tray.{for_step}
+use Rattle.laws.proofs.laws.Tray.{for_step, for_room}
 use Rattle.house.specs.Pairs.{box_no}
 use Rattle.house.specs.declared.BoxNo.{BoxNo}
 use Rattle.house.specs.Marks.{has_mark, marks_of}
@@ -53,6 +53,17 @@ pub addressed_same : (r q : Record) (p : BoxNo) → q ≡ addressed r q.to → a
 unfolding addressed
 addressed_same r q p e = ap (λ (k : Record). addressed k p) e
 
+-- the one copy that names each box in turn: a box that is meant gets it
+pub copy_sent : (P : Plan) (m : ℕ) (r q : Record) (p : ℕ) → has_mark m (box_no p) ≡ true → q ≡ addressed r q.to
+    → sent_to P m r p ≡ encode P (addressed q (box_no p))
+copy_sent P m r q p e s = (sent_meant P m r p e).0 ∙ ap (encode P) (sym (addressed_same r q (box_no p) s))
+
+-- and it fits behind what the boxes below got
+pub copy_fits : (P : Plan) (m : ℕ) (r q : Record) (n p used room : ℕ) → sent_to P m r p ≡ encode P (addressed q (box_no p)) → p < n
+    → used ≡ length (all_for (sent_to P m r) p) → length (all_for (sent_to P m r) n) ≤ room
+    → used + length (encode P (addressed q (box_no p))) ≤ room
+copy_fits P m r q n p used room e l u h = let k = for_room (sent_to P m r) n p l in rw (← e) (omega (arith, k, h, u))
+
 -- a list made box by box is sent box by box, if each box gets the same record
 module _ (P : Plan) (s : plan_sound P ≡ true) (meant : BoxNo → Bool) (f : BoxNo → Rec) (r : Record)
     (what : (p : BoxNo) → carried (f p) ≡ addressed r p) where
@@ -91,3 +102,7 @@ module _ (P : Plan) (s : plan_sound P ≡ true) (meant : BoxNo → Bool) (f : Bo
   pub each_sends : Sends P (to_each P meant f) (marks_of meant (boxes_of P)) r
   unfolding to_each made marks sent_bytes sent_count
   each_sends = record { bytes = bytes_below (boxes_of P) (omega arith); count = count_below (boxes_of P) (omega arith) }
+
+-- the boxes and the record of the code, if they are those of the law
+pub sends_as : {P : Plan} {l : List Rec} {m m' : ℕ} {r r' : Record} → Sends P l m r → m' ≡ m → r' ≡ r → Sends P l m' r'
+sends_as S e f = rw (e, f) S

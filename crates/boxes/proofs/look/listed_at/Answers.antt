@@ -14,7 +14,7 @@ returns-then-i-ge-MOST_JOBS c =
     let a = c.args in
     -- owning a box says how long its list is
     let n : length a.x.core.list ≡ 64 = search rules in
-    rw (no_stamp_says) (sym (get_or-eq_default a.x.core.list no_listed {n = a.i} (omega (arith, n, if1_taken))))
+    rw no_stamp_says (sym (get_or-eq_default a.x.core.list no_listed {n = a.i} (omega (arith, n, if1_taken))))
 
 pub returns : goal.returns
 unfolding listed_at

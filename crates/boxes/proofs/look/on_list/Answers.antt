@@ -27,7 +27,7 @@ returns-then-i-ge-MOST_JOBS c =
     let a = c.args in
     let l = c.loop-i in
     rw l.invariant.1 (jobs_end a.x.core.list a.job l.i a.x.core.count
-    (omega (arith, l.invariant.2, if1_taken)) (loop_test_taken))
+    (omega (arith, l.invariant.2, if1_taken)) loop_test_taken)
 
 pub loop-i-preserved : goal.loop-i-preserved
 loop-i-preserved c =

@@ -20,7 +20,7 @@ returns-then-plan_sound c =
     let plan_sound_says = c.plan_sound.ensures in
     let a = c.args in
     let q = c.put_report in
-    let v : sound_report a.plan a.night ≡ night_report a.plan a.night = sym (pick_true _ _ (sym (plan_sound_says) ∙ if1_taken)) in
+    let v : sound_report a.plan a.night ≡ night_report a.plan a.night = sym (pick_true _ _ (sym plan_sound_says ∙ if1_taken)) in
     record { used = q.ensures.1 ∙ ap length v; text = q.ensures.2 ∙ ap (λ (l : List ℕ). onto l a.t.now) v }
 
 pub returns : goal.returns
@@ -29,5 +29,5 @@ returns c =
     let if1_left = c.if-plan_sound.false in
     let plan_sound_says = c.plan_sound.ensures in
     let a = c.args in
-    let v : [] ≡ night_report a.plan a.night = sym (pick_false (sound_report a.plan a.night) _ (sym (plan_sound_says) ∙ if1_left)) in
+    let v : [] ≡ night_report a.plan a.night = sym (pick_false (sound_report a.plan a.night) _ (sym plan_sound_says ∙ if1_left)) in
     record { used = ap length v; text = sym (onto_nil a.t.now) ∙ ap (λ (l : List ℕ). onto l a.t.now) v }

@@ -17,7 +17,7 @@ loop-j-preserved c =
     let end_with_says = c.end_with-e.ensures in
     let a = c.args in
     let l = c.loop-j in
-    (omega arith, rw (end_with_says) (heard_step a.p a.x a.ends l.j l.out (search rules) l.invariant.1))
+    (omega arith, rw end_with_says (heard_step a.p a.x a.ends l.j l.out (search rules) l.invariant.1))
 
 pub returns : goal.returns
 returns c =

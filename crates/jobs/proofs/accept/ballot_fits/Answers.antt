@@ -11,7 +11,7 @@ returns-then-d-home c =
     let same_ballot_says = c.same_ballot.ensures in
     let if1_taken = c.if-d-home.true in
     let home_in_says = c.home_in-home.ensures in
-    same_ballot_says ∙ sym (pick_true _ _ (rw (home_in_says) at (eq-eqb _ _ (if1_taken))))
+    same_ballot_says ∙ sym (pick_true _ _ (rw home_in_says at (eq-eqb _ _ if1_taken)))
 
 pub returns : goal.returns
 unfolding ballot_fits
@@ -20,4 +20,4 @@ returns c =
     let kept_ballot_says = c.kept_ballot-old.ensures in
     let if1_left = c.if-d-home.false in
     let home_in_says = c.home_in-home.ensures in
-    rw (ballot_below_says, kept_ballot_says) (sym (pick_false _ _ (rw (home_in_says) at (ne_eqb _ _ (if1_left)))))
+    rw (ballot_below_says, kept_ballot_says) (sym (pick_false _ _ (rw home_in_says at (ne_eqb _ _ if1_left))))

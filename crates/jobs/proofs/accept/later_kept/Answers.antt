@@ -9,7 +9,7 @@ returns-then-named c =
     let kept_stamp_says = c.kept_stamp-t.ensures in
     let if1_taken = c.if-named.true in
     let named_says = c.named.ensures in
-    later_stamp_says ∙ rw (kept_stamp_says) (sym (pick_true _ _ (sym (named_says) ∙ if1_taken)))
+    later_stamp_says ∙ rw kept_stamp_says (sym (pick_true _ _ (sym named_says ∙ if1_taken)))
 
 pub returns : goal.returns
 returns c = sym (pick_false _ _ (sym c.named.ensures ∙ c.if-named.false))

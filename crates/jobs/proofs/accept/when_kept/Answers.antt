@@ -1,7 +1,7 @@
 -- `jobs::accept::when_kept` meets its contract.
 use mathlib.Core.List.{[]}
 use Rattle.jobs.proofs.laws.Steps.{sent_acks}
-use Rattle.sending.specs.Sends.{Sends}
+use Rattle.sending.proofs.laws.Sends.{sends_as}
 use Rattle.records.proofs.laws.Bytes.{encode_none}
 use Rattle.boxes.specs.declared.Delivery.TheVariants.{Nothing}
 use Rattle.boxes.specs.Accept.{accepted, acks, when_kept}
@@ -23,9 +23,7 @@ done_sending-requires c =
     let accept_says = c.accept-y.ensures in
     let if1_taken = c.if-all_kept.true in
     let asked = c.requires in
-    let sent : Sends a.plan (acks a.plan y a.job) c.kept_leaders-meant.result c.ack_record-r.result =
-    rw (c.kept_leaders-meant.ensures, c.ack_record-r.ensures)
-    (sent_acks c.args.plan c.requires.0 c.args.job c.accept-y.result) in
+    let sent = sends_as (sent_acks a.plan c.requires.0 a.job y) c.kept_leaders-meant.ensures c.ack_record-r.ensures in
     let accepts : when_kept a.plan a.x a.job ≡ does y (acks a.plan y a.job) Nothing =
     rw accept_says (pick_true _ _ (sym c.all_kept.ensures ∙ if1_taken)) in
     (asked.0, (_, sent, rw accepts at asked.2))
@@ -37,9 +35,7 @@ returns-then-all_kept c =
     let y = c.accept-y.result in
     let accept_says = c.accept-y.ensures in
     let if1_taken = c.if-all_kept.true in
-    let sent : Sends a.plan (acks a.plan y a.job) c.kept_leaders-meant.result c.ack_record-r.result =
-    rw (c.kept_leaders-meant.ensures, c.ack_record-r.ensures)
-    (sent_acks c.args.plan c.requires.0 c.args.job c.accept-y.result) in
+    let sent = sends_as (sent_acks a.plan c.requires.0 a.job y) c.kept_leaders-meant.ensures c.ack_record-r.ensures in
     let accepts : when_kept a.plan a.x a.job ≡ does y (acks a.plan y a.job) Nothing =
     rw accept_says (pick_true _ _ (sym c.all_kept.ensures ∙ if1_taken)) in
     let q = c.done_sending.ensures _ sent in
@@ -56,5 +52,5 @@ returns c =
     pick_false
     (does (accepted a.plan a.x a.job) (acks a.plan (accepted a.plan a.x a.job) a.job) Nothing)
     (does a.x [] Nothing)
-    (sym (all_kept_says) ∙ if1_left) in
+    (sym all_kept_says ∙ if1_left) in
     (done_says ∙ rw (v, encode_none a.plan), rw (v, encode_none a.plan) (sym (onto_nil a.tray.now)))

@@ -17,4 +17,4 @@ returns c =
     let home_in_says = c.home_in-home.ensures in
     let if1_taken = c.if-row-eq-START.true in
     let row_at_says = c.row_at-row.ensures in
-    put_row_says ∙ rw (no_stamp_says, home_in_says) (sym (pick_true _ _ (rw (row_at_says) at (eq-eqb _ _ (if1_taken)))))
+    put_row_says ∙ rw (no_stamp_says, home_in_says) (sym (pick_true _ _ (rw row_at_says at (eq-eqb _ _ if1_taken))))

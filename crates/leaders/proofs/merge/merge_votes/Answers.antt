@@ -11,7 +11,7 @@ returns-then-p-q c =
     let if1_taken = c.if-p-q.true in
     let a = c.args in
     let asked = c.requires in
-    rw (with_held a.old a.new asked.0 ∙ pick_true _ _ (lt-ltb _ _ (if1_taken))) (merge_two_says)
+    rw (with_held a.old a.new asked.0 ∙ pick_true _ _ (lt-ltb _ _ if1_taken)) merge_two_says
 
 pub returns : goal.returns
 returns c =
@@ -19,4 +19,4 @@ returns c =
     let if1_left = c.if-p-q.false in
     let a = c.args in
     let asked = c.requires in
-    rw (with_held a.old a.new asked.0 ∙ pick_false _ _ (le-ltb _ _ (if1_left))) (merge_two2_says)
+    rw (with_held a.old a.new asked.0 ∙ pick_false _ _ (le-ltb _ _ if1_left)) merge_two2_says

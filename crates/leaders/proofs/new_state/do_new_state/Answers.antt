@@ -12,7 +12,7 @@ put_record-used-requires c =
     let p = c.requires in
     let v = new_state_is a.plan a.x a.from a.y p.2 in
     let o = encode_one a.plan (newstate_ack a.x.core.own a.from a.y.ballot) in
-    (p.0, rw (newstate_ack_record_says) (rw (v, o) at p.1))
+    (p.0, rw newstate_ack_record_says (rw (v, o) at p.1))
 
 pub returns : goal.returns
 returns c =

@@ -12,7 +12,7 @@ put_record-used-requires c =
     let p = c.requires in
     let v = newleader_is a.plan a.x a.from a.b p.2 in
     let o = encode_one a.plan (vote_for a.plan a.x a.from a.b) in
-    (p.0, rw (vote_record_says) (rw (v, o) at p.1))
+    (p.0, rw vote_record_says (rw (v, o) at p.1))
 
 pub returns : goal.returns
 returns c =

@@ -4,7 +4,7 @@ use Rattle.leaders.proofs.laws.Votes.{quorum_held}
 use Rattle.boxes.specs.NewleaderAck.{new_states, when_voted}
 use Rattle.boxes.specs.Out.{does}
 use Rattle.boxes.specs.declared.Delivery.TheVariants.{Nothing}
-use Rattle.sending.specs.Sends.{Sends}
+use Rattle.sending.proofs.laws.Sends.{sends_as}
 use Rattle.records.proofs.laws.Bytes.{encode_none}
 use Rattle.house.proofs.laws.Says.{plan_says}
 use Rattle.laws.proofs.laws.Tray.{onto_nil}
@@ -18,7 +18,7 @@ merge-y-requires c =
     let is_quorum_says = c.is_quorum.ensures in
     let a = c.args in
     let asked = c.requires in
-    (quorum_held a.plan a.x.volatile.vote (sym (is_quorum_says) ∙ if1_taken), (plan_says a.plan asked.0).jobs_most)
+    (quorum_held a.plan a.x.volatile.vote (sym is_quorum_says ∙ if1_taken), (plan_says a.plan asked.0).jobs_most)
 
 pub other_boxes-meant-requires : goal.other_boxes-meant-requires
 other_boxes-meant-requires c =
@@ -32,9 +32,7 @@ done_sending-requires c =
     let merge_says = c.merge-y.ensures in
     let if1_taken = c.if-is_quorum.true in
     let asked = c.requires in
-    let sent : Sends a.plan (new_states a.plan y) c.other_boxes-meant.result c.new_state_record-r.result =
-    rw (c.other_boxes-meant.ensures, c.new_state_record-r.ensures)
-    (states_sent c.args.plan c.requires.0 c.merge-y.result) in
+    let sent = sends_as (states_sent a.plan c.requires.0 y) c.other_boxes-meant.ensures c.new_state_record-r.ensures in
     let merges : when_voted a.plan a.x a.v ≡ does y (new_states a.plan y) Nothing =
     rw merge_says (pick_true _ _ (sym c.is_quorum.ensures ∙ if1_taken)) in
     (asked.0, (_, sent, rw merges at asked.1))
@@ -46,9 +44,7 @@ returns-then-is_quorum c =
     let y = c.merge-y.result in
     let merge_says = c.merge-y.ensures in
     let if1_taken = c.if-is_quorum.true in
-    let sent : Sends a.plan (new_states a.plan y) c.other_boxes-meant.result c.new_state_record-r.result =
-    rw (c.other_boxes-meant.ensures, c.new_state_record-r.ensures)
-    (states_sent c.args.plan c.requires.0 c.merge-y.result) in
+    let sent = sends_as (states_sent a.plan c.requires.0 y) c.other_boxes-meant.ensures c.new_state_record-r.ensures in
     let merges : when_voted a.plan a.x a.v ≡ does y (new_states a.plan y) Nothing =
     rw merge_says (pick_true _ _ (sym c.is_quorum.ensures ∙ if1_taken)) in
     let q = c.done_sending.ensures _ sent in
@@ -62,5 +58,5 @@ returns c =
     let if1_left = c.if-is_quorum.false in
     let is_quorum_says = c.is_quorum.ensures in
     let a = c.args in
-    let v : when_voted a.plan a.x a.v ≡ _ = pick_false _ _ (sym (is_quorum_says) ∙ if1_left) in
+    let v : when_voted a.plan a.x a.v ≡ _ = pick_false _ _ (sym is_quorum_says ∙ if1_left) in
     (done_says ∙ rw (v, encode_none a.plan, put_vote_says), rw (v, encode_none a.plan) (sym (onto_nil a.tray.now)))

@@ -15,7 +15,7 @@ returns-then-is_word-2 c =
     let is_word2_says = c.is_word-2.ensures in
     let if1_left = c.if-is_word.false in
     let is_word_says = c.is_word.ensures in
-    rw (sym (is_word_says) ∙ if1_left, sym (is_word2_says) ∙ if2_taken)
+    rw (sym is_word_says ∙ if1_left, sym is_word2_says ∙ if2_taken)
 
 pub returns-then-is_word-3 : goal.returns-then-is_word-3
 unfolding one_number pick
@@ -27,7 +27,7 @@ returns-then-is_word-3 c =
     let at_6 = c in
     let if1_left = at_6.if-is_word.false in
     let is_word_says = at_6.is_word.ensures in
-    rw (sym (is_word_says) ∙ if1_left, sym (is_word2_says) ∙ if2_left, sym (is_word3_says) ∙ if3_taken)
+    rw (sym is_word_says ∙ if1_left, sym is_word2_says ∙ if2_left, sym is_word3_says ∙ if3_taken)
 
 pub returns-then-is_word-4 : goal.returns-then-is_word-4
 unfolding one_number pick
@@ -41,7 +41,7 @@ returns-then-is_word-4 c =
     let is_word2_says = at_6.is_word-2.ensures in
     let if1_left = at_6.if-is_word.false in
     let is_word_says = at_6.is_word.ensures in
-    rw (sym (is_word_says) ∙ if1_left, sym (is_word2_says) ∙ if2_left, sym (is_word3_says) ∙ if3_left, sym (is_word4_says) ∙ if4_taken)
+    rw (sym is_word_says ∙ if1_left, sym is_word2_says ∙ if2_left, sym is_word3_says ∙ if3_left, sym is_word4_says ∙ if4_taken)
 
 pub returns-then-is_word-5 : goal.returns-then-is_word-5
 unfolding one_number pick
@@ -59,11 +59,11 @@ returns-then-is_word-5 c =
     let if1_left = at_12.if-is_word.false in
     let is_word_says = at_12.is_word.ensures in
     rw (
-      sym (is_word_says) ∙ if1_left,
-      sym (is_word2_says) ∙ if2_left,
-      sym (is_word3_says) ∙ if3_left,
-      sym (is_word4_says) ∙ if4_left,
-      sym (is_word5_says) ∙ if5_taken,
+      sym is_word_says ∙ if1_left,
+      sym is_word2_says ∙ if2_left,
+      sym is_word3_says ∙ if3_left,
+      sym is_word4_says ∙ if4_left,
+      sym is_word5_says ∙ if5_taken,
     )
 
 pub returns-then-is_word-6 : goal.returns-then-is_word-6
@@ -84,12 +84,12 @@ returns-then-is_word-6 c =
     let if1_left = at_12.if-is_word.false in
     let is_word_says = at_12.is_word.ensures in
     rw (
-      sym (is_word_says) ∙ if1_left,
-      sym (is_word2_says) ∙ if2_left,
-      sym (is_word3_says) ∙ if3_left,
-      sym (is_word4_says) ∙ if4_left,
-      sym (is_word5_says) ∙ if5_left,
-      sym (is_word6_says) ∙ if6_taken,
+      sym is_word_says ∙ if1_left,
+      sym is_word2_says ∙ if2_left,
+      sym is_word3_says ∙ if3_left,
+      sym is_word4_says ∙ if4_left,
+      sym is_word5_says ∙ if5_left,
+      sym is_word6_says ∙ if6_taken,
     )
 
 pub returns : goal.returns
@@ -110,10 +110,10 @@ returns c =
     let if1_left = at_12.if-is_word.false in
     let is_word_says = at_12.is_word.ensures in
     rw (
-      sym (is_word_says) ∙ if1_left,
-      sym (is_word2_says) ∙ if2_left,
-      sym (is_word3_says) ∙ if3_left,
-      sym (is_word4_says) ∙ if4_left,
-      sym (is_word5_says) ∙ if5_left,
-      sym (is_word6_says) ∙ if6_left,
+      sym is_word_says ∙ if1_left,
+      sym is_word2_says ∙ if2_left,
+      sym is_word3_says ∙ if3_left,
+      sym is_word4_says ∙ if4_left,
+      sym is_word5_says ∙ if5_left,
+      sym is_word6_says ∙ if6_left,
     )

@@ -25,7 +25,7 @@ returns-then-k-line c =
     let line = given.line.now in
     let k = at_4.first_space-k in
     line_read line (order_of_rest_says ∙ rw (sub-zero, rest_of (k.result + 1) line)
-    (sym (ap order_of_words (words_cut line k.result k.ensures.1 (if2_taken))) ∙ sym (pick_false _ _ (le-ltb _ _ (if1_left)))))
+    (sym (ap order_of_words (words_cut line k.result k.ensures.1 if2_taken)) ∙ sym (pick_false _ _ (le-ltb _ _ if1_left))))
 
 pub returns : goal.returns
 unfolding order_of_line order_of_words
@@ -35,4 +35,4 @@ returns c =
     let given = c.args in
     let line = given.line.now in
     let k = c.first_space-k in
-    line_read line (sym (pick_false _ _ (le-ltb _ _ (if1_left)) ∙ ap order_of_words (words_whole line k.result k.ensures.1 (if2_left))))
+    line_read line (sym (pick_false _ _ (le-ltb _ _ if1_left) ∙ ap order_of_words (words_whole line k.result k.ensures.1 if2_left)))

@@ -14,7 +14,7 @@ returns-then-k-rest c =
     let given = at_4.args in
     let rest = given.rest.now in
     let k = at_4.first_space-k in
-    three_words_says ∙ rw (sub-zero, rest_of (k.result + 1) rest, words_cut rest k.result k.ensures.1 (if1_taken))
+    three_words_says ∙ rw (sub-zero, rest_of (k.result + 1) rest, words_cut rest k.result k.ensures.1 if1_taken)
 
 pub returns : goal.returns
 returns c =
@@ -23,4 +23,4 @@ returns c =
     let given = c.args in
     let rest = given.rest.now in
     let k = c.first_space-k in
-    two_words_says ∙ rw (words_whole rest k.result k.ensures.1 (if1_left))
+    two_words_says ∙ rw (words_whole rest k.result k.ensures.1 if1_left)

@@ -15,7 +15,7 @@ returns-then-first_space-rest c =
     let a = c.args in
     let k = c.first_space in
     sym
-    (ap (λ (ws : List (List ℕ)). order_of_words (a.word.now ∷ a.number.now ∷ ws)) (words_cut a.rest.now k.result k.ensures.1 (if1_taken))
+    (ap (λ (ws : List (List ℕ)). order_of_words (a.word.now ∷ a.number.now ∷ ws)) (words_cut a.rest.now k.result k.ensures.1 if1_taken)
     ∙ four_words _ _ _ _)
 
 pub value-requires : goal.value-requires
@@ -25,7 +25,7 @@ value-requires c =
     let at_4 = c in
     let b = at_4.is_number in
     let j = c.is_number-2 in
-    sym b.ensures ∙ and_left b.result j.result (and_right (is_word_result) (b.result && j.result) (if2_taken))
+    sym b.ensures ∙ and_left b.result j.result (and_right is_word_result (b.result && j.result) if2_taken)
 
 pub value-requires-then-is_word-numbers : goal.value-requires-then-is_word-numbers
 value-requires-then-is_word-numbers c =
@@ -35,7 +35,7 @@ value-requires-then-is_word-numbers c =
     let at_5 = at_4 in
     let b = at_5.is_number in
     let j = at_4.is_number-2 in
-    sym j.ensures ∙ and_right b.result j.result (and_right (is_word_result) (b.result && j.result) (if2_taken))
+    sym j.ensures ∙ and_right b.result j.result (and_right is_word_result (b.result && j.result) if2_taken)
 
 pub returns-then-is_word-numbers : goal.returns-then-is_word-numbers
 unfolding order_of_words
@@ -52,8 +52,8 @@ returns-then-is_word-numbers c =
     let given = at_8.args in
     let rest = given.rest.now in
     let k = at_8.first_space in
-    rw (words_whole rest k.result k.ensures.1 (if1_left), value_says, value2_says)
-    (sym (pick_true _ _ (rw (← is_word_says, ← is_number_says, ← is_number2_says) (if2_taken))))
+    rw (words_whole rest k.result k.ensures.1 if1_left, value_says, value2_says)
+    (sym (pick_true _ _ (rw (← is_word_says, ← is_number_says, ← is_number2_says) if2_taken)))
 
 pub returns : goal.returns
 unfolding order_of_words
@@ -67,5 +67,5 @@ returns c =
     let given = at_6.args in
     let rest = given.rest.now in
     let k = at_6.first_space in
-    rw (words_whole rest k.result k.ensures.1 (if1_left))
-    (sym (pick_false _ _ (rw (← is_word_says, ← is_number_says, ← is_number2_says) (if2_left))))
+    rw (words_whole rest k.result k.ensures.1 if1_left)
+    (sym (pick_false _ _ (rw (← is_word_says, ← is_number_says, ← is_number2_says) if2_left)))

@@ -14,7 +14,7 @@ returns-then-is_number c =
     let value_says = c.value.ensures in
     let if1_taken = c.if-is_number.true in
     let is_number_says = c.is_number.ensures in
-    one_number_says ∙ rw (value_says) (sym (pick_true _ _ (sym (is_number_says) ∙ if1_taken)))
+    one_number_says ∙ rw value_says (sym (pick_true _ _ (sym is_number_says ∙ if1_taken)))
 
 pub returns : goal.returns
 unfolding order_of_words

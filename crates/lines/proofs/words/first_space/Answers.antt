@@ -12,7 +12,7 @@ returns-then-s-i-eq32 c =
     let if1_taken = c.if-s-i-eq32.true in
     let given = c.args in
     let l = c.loop-i in
-    let e = first_here space given.s.now l.i (omega arith) (if1_taken) in
+    let e = first_here space given.s.now l.i (omega arith) if1_taken in
     (omega arith, omega (arith, e))
 
 pub loop-i-preserved : goal.loop-i-preserved
@@ -20,7 +20,7 @@ loop-i-preserved c =
     let if1_left = c.if-s-i-eq32.false in
     let given = c.args in
     let l = c.loop-i in
-    let e = first_on space given.s.now l.i (omega arith) (if1_left) in
+    let e = first_on space given.s.now l.i (omega arith) if1_left in
     (omega arith, omega (arith, e))
 
 pub returns : goal.returns

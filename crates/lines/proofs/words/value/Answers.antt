@@ -26,13 +26,13 @@ pub digit-requires : goal.digit-requires
 digit-requires c =
     let given = c.args in
     let asked = c.requires in
-    number_digit given.s.now c.loop-i.i (asked) (omega arith)
+    number_digit given.s.now c.loop-i.i asked (omega arith)
 
 pub overflow_add-v : goal.overflow_add-v
 overflow_add-v c =
     let given = c.args in
     let asked = c.requires in
-    let n = number_nine given.s.now (asked) in
+    let n = number_nine given.s.now asked in
     let p : 10 ^ c.loop-i.i ≤ 100000000 =
     pow-le-pow_right {n = 10} (lit< tt) {i = c.loop-i.i} {j = 8} (omega arith) in
     search rules

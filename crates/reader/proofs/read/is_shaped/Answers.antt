@@ -26,8 +26,8 @@ returns-else-len-length_of c =
     let if1_left = c.if-len-lt6.false in
     let a = c.args in
     let s = a.s.now in
-    let n : length s ≢ length_of a.plan (get_or s 1 0) = λ e. if3_left (e ∙ sym (length_of_says)) in
-    rw (le-leb _ _ (if1_left), sym (is_known_says) ∙ if2_taken, ne_eqb (length s) (length_of a.plan (get_or s 1 0)) n)
+    let n : length s ≢ length_of a.plan (get_or s 1 0) = λ e. if3_left (e ∙ sym length_of_says) in
+    rw (le-leb _ _ if1_left, sym is_known_says ∙ if2_taken, ne_eqb (length s) (length_of a.plan (get_or s 1 0)) n)
 
 pub bounds-s-p : goal.bounds-s-p
 bounds-s-p c =
@@ -61,8 +61,8 @@ returns c =
     let a = c.args in
     let s = a.s.now in
     rw (
-      le-leb _ _ (if1_left),
-      sym (is_known_says) ∙ if2_taken,
+      le-leb _ _ if1_left,
+      sym is_known_says ∙ if2_taken,
       eq-eqb (length s) (length_of a.plan (get_or s 1 0)) (if3_taken ∙ length_of_says),
       rows_in_says,
       stamps_in_says,

@@ -1,95 +1,94 @@
 -- `reader::read::parse_record` meets its contract: what the shape of the bytes says, and that section 1 gives the kind.
-use Rattle.records.proofs.laws.Shapes.{Shape, shape_says, ballots_inside, stamps_inside, rows_inside}
+use Rattle.records.proofs.laws.Shapes.{shape_says, ballots_inside, stamps_inside, rows_inside}
 use Rattle.records.proofs.laws.Sections.{rest_room}
 use Rattle.records.proofs.laws.Table.{ballots_most, stamps_most, rows_most}
 use Rattle.records.specs.Bytes.{parse, stamps_at, rows_at}
-use Rattle.reader.proofs.laws.Head.{head_behind}
-use Rattle.reader.specs.declared.get.Head.{Head}
+use Rattle.reader.proofs.laws.Head.{head_behind, kind_behind}
 use Rattle.laws.proofs.laws.Tray.{rest_of}
 use lib.ListN.{length, get_or}
 use Prim.Native.Nat.{◌+◌, ◌*◌, ◌≤◌}
 use native.Mathlib.Omega.{arith}
-use mathlib.Core.Path.{◌≡◌, refl, ap}
+use mathlib.Core.Path.{refl}
 use Rattle.reader.proofs.read.parse_record.Goals as goal
 
 pub slice_bounds-read_head-count : goal.slice_bounds-read_head-count
 slice_bounds-read_head-count c =
-    let shape : Shape c.args.plan c.args.s.now (get_or c.args.s.now 1 0) = shape_says c.args.plan c.args.s.now c.requires.1 in
-    omega (arith, (shape).some)
+    let shape = shape_says c.args.plan c.args.s.now c.requires.1 in
+    omega (arith, shape.some)
 
 pub slice_bounds-read_head-start : goal.slice_bounds-read_head-start
 slice_bounds-read_head-start c =
-    let shape : Shape c.args.plan c.args.s.now (get_or c.args.s.now 1 0) = shape_says c.args.plan c.args.s.now c.requires.1 in
-    omega (arith, (shape).some)
+    let shape = shape_says c.args.plan c.args.s.now c.requires.1 in
+    omega (arith, shape.some)
 
 pub read_head-head-requires : goal.read_head-head-requires
 read_head-head-requires c =
-    let shape : Shape c.args.plan c.args.s.now (get_or c.args.s.now 1 0) = shape_says c.args.plan c.args.s.now c.requires.1 in
-    rest_room 1 4 _ c.args.s.now refl (omega (arith, (shape).some))
+    let shape = shape_says c.args.plan c.args.s.now c.requires.1 in
+    rest_room 1 4 _ c.args.s.now refl (omega (arith, shape.some))
 
 pub slice_bounds-read_ballots-count : goal.slice_bounds-read_ballots-count
 slice_bounds-read_ballots-count c =
-    let shape : Shape c.args.plan c.args.s.now (get_or c.args.s.now 1 0) = shape_says c.args.plan c.args.s.now c.requires.1 in
-    omega (arith, (shape).some)
+    let shape = shape_says c.args.plan c.args.s.now c.requires.1 in
+    omega (arith, shape.some)
 
 pub slice_bounds-read_ballots-start : goal.slice_bounds-read_ballots-start
 slice_bounds-read_ballots-start c =
-    let shape : Shape c.args.plan c.args.s.now (get_or c.args.s.now 1 0) = shape_says c.args.plan c.args.s.now c.requires.1 in
-    omega (arith, (shape).some)
+    let shape = shape_says c.args.plan c.args.s.now c.requires.1 in
+    omega (arith, shape.some)
 
 pub read_ballots-ballots-requires : goal.read_ballots-ballots-requires
 read_ballots-ballots-requires c =
-    let shape : Shape c.args.plan c.args.s.now (get_or c.args.s.now 1 0) = shape_says c.args.plan c.args.s.now c.requires.1 in
-    let kind_is : c.read_head-head.result.kind ≡ get_or c.args.s.now 1 0 = ap (λ (h : Head). h.kind) (head_behind c.args.s.now c.read_head-head.ensures) in
+    let shape = shape_says c.args.plan c.args.s.now c.requires.1 in
+    let kind_is = kind_behind c.args.s.now c.read_head-head.ensures in
     let ballots_in_says = c.ballots_in.ensures in
     let ballots_in_result = c.ballots_in.result in
     let a = c.args in
     let asked = c.requires in
     let s = a.s.now in let k = get_or s 1 0 in
-    let e = rw (kind_is) at (ballots_in_says) in
-    let h : 6 + ballots_in_result * 3 ≤ length s = omega (arith, (shape).whole, ballots_inside a.plan k, e) in
+    let e = rw kind_is at ballots_in_says in
+    let h : 6 + ballots_in_result * 3 ≤ length s = omega (arith, shape.whole, ballots_inside a.plan k, e) in
     (rw e (ballots_most a.plan k asked.0), rest_room 6 (ballots_in_result * 3) _ s refl h)
 
 pub slice_bounds-read_stamps-count : goal.slice_bounds-read_stamps-count
 slice_bounds-read_stamps-count c =
-    let shape : Shape c.args.plan c.args.s.now (get_or c.args.s.now 1 0) = shape_says c.args.plan c.args.s.now c.requires.1 in
-    let kind_is : c.read_head-head.result.kind ≡ get_or c.args.s.now 1 0 = ap (λ (h : Head). h.kind) (head_behind c.args.s.now c.read_head-head.ensures) in
+    let shape = shape_says c.args.plan c.args.s.now c.requires.1 in
+    let kind_is = kind_behind c.args.s.now c.read_head-head.ensures in
     let stamps_at_says = c.stamps_at-p.ensures in
     let a = c.args in
-    omega (arith, (shape).whole, stamps_inside a.plan (get_or a.s.now 1 0), rw (kind_is) at stamps_at_says.0)
+    omega (arith, shape.whole, stamps_inside a.plan (get_or a.s.now 1 0), rw kind_is at stamps_at_says.0)
 
 pub slice_bounds-read_stamps-start : goal.slice_bounds-read_stamps-start
 slice_bounds-read_stamps-start c = slice_bounds-read_stamps-count c
 
 pub read_stamps-stamps-requires : goal.read_stamps-stamps-requires
 read_stamps-stamps-requires c =
-    let shape : Shape c.args.plan c.args.s.now (get_or c.args.s.now 1 0) = shape_says c.args.plan c.args.s.now c.requires.1 in
-    let kind_is : c.read_head-head.result.kind ≡ get_or c.args.s.now 1 0 = ap (λ (h : Head). h.kind) (head_behind c.args.s.now c.read_head-head.ensures) in
+    let shape = shape_says c.args.plan c.args.s.now c.requires.1 in
+    let kind_is = kind_behind c.args.s.now c.read_head-head.ensures in
     let stamps_in_says = c.stamps_in.ensures in
     let stamps_in_result = c.stamps_in.result in
     let stamps_at_says = c.stamps_at-p.ensures in
     let stamps_at_result = c.stamps_at-p.result in
     let a = c.args in
     let s = a.s.now in let k = get_or s 1 0 in
-    let e = rw (kind_is) at (stamps_in_says) in let f = rw (kind_is) at stamps_at_says.0 in
-    let h : stamps_at_result + 1 + stamps_in_result * 5 ≤ length s = omega (arith, (shape).whole, stamps_inside a.plan k, f, e) in
+    let e = rw kind_is at stamps_in_says in let f = rw kind_is at stamps_at_says.0 in
+    let h : stamps_at_result + 1 + stamps_in_result * 5 ≤ length s = omega (arith, shape.whole, stamps_inside a.plan k, f, e) in
     (rw e (stamps_most k), rest_room (stamps_at_result + 1) (stamps_in_result * 5) _ s refl h)
 
 pub slice_bounds-read_rows-count : goal.slice_bounds-read_rows-count
 slice_bounds-read_rows-count c =
-    let shape : Shape c.args.plan c.args.s.now (get_or c.args.s.now 1 0) = shape_says c.args.plan c.args.s.now c.requires.1 in
-    let kind_is : c.read_head-head.result.kind ≡ get_or c.args.s.now 1 0 = ap (λ (h : Head). h.kind) (head_behind c.args.s.now c.read_head-head.ensures) in
+    let shape = shape_says c.args.plan c.args.s.now c.requires.1 in
+    let kind_is = kind_behind c.args.s.now c.read_head-head.ensures in
     let rows_at_says = c.rows_at-q.ensures in
     let a = c.args in
-    omega (arith, (shape).whole, rows_inside a.plan (get_or a.s.now 1 0), rw (kind_is) at rows_at_says.0)
+    omega (arith, shape.whole, rows_inside a.plan (get_or a.s.now 1 0), rw kind_is at rows_at_says.0)
 
 pub slice_bounds-read_rows-start : goal.slice_bounds-read_rows-start
 slice_bounds-read_rows-start c = slice_bounds-read_rows-count c
 
 pub read_rows-table-requires : goal.read_rows-table-requires
 read_rows-table-requires c =
-    let shape : Shape c.args.plan c.args.s.now (get_or c.args.s.now 1 0) = shape_says c.args.plan c.args.s.now c.requires.1 in
-    let kind_is : c.read_head-head.result.kind ≡ get_or c.args.s.now 1 0 = ap (λ (h : Head). h.kind) (head_behind c.args.s.now c.read_head-head.ensures) in
+    let shape = shape_says c.args.plan c.args.s.now c.requires.1 in
+    let kind_is = kind_behind c.args.s.now c.read_head-head.ensures in
     let rows_in_says = c.rows_in.ensures in
     let rows_in_result = c.rows_in.result in
     let rows_at_says = c.rows_at-q.ensures in
@@ -97,8 +96,8 @@ read_rows-table-requires c =
     let a = c.args in
     let asked = c.requires in
     let s = a.s.now in let k = get_or s 1 0 in
-    let e = rw (kind_is) at (rows_in_says) in let f = rw (kind_is) at rows_at_says.0 in
-    let h : rows_at_result + 1 + rows_in_result * 11 ≤ length s = omega (arith, (shape).whole, rows_inside a.plan k, f, e) in
+    let e = rw kind_is at rows_in_says in let f = rw kind_is at rows_at_says.0 in
+    let h : rows_at_result + 1 + rows_in_result * 11 ≤ length s = omega (arith, shape.whole, rows_inside a.plan k, f, e) in
     (rw e (rows_most a.plan k asked.0), rest_room (rows_at_result + 1) (rows_in_result * 11) _ s refl h)
 
 pub returns : goal.returns
@@ -124,7 +123,7 @@ returns c =
       ballots_in_says,
       rows_at_says.0,
       stamps_at_says.0,
-      head_behind s (read_head_says),
+      head_behind s read_head_says,
       rest_of 6 s,
       rest_of (stamps_at a.plan k + 1) s,
       rest_of (rows_at a.plan k + 1) s,

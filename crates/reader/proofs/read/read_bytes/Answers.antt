@@ -12,7 +12,7 @@ returns-else-is_shaped c =
     let if1_left = c.if-is_shaped.false in
     let is_shaped_says = c.is_shaped.ensures in
     let asked = c.requires in
-    read_promised (Refused-Says ∙ rw (asked, sym (is_shaped_says) ∙ if1_left))
+    read_promised (Refused-Says ∙ rw (asked, sym is_shaped_says ∙ if1_left))
 
 pub parse_record-r-requires : goal.parse_record-r-requires
 parse_record-r-requires c = (c.requires, sym c.is_shaped.ensures ∙ c.if-is_shaped.true)
@@ -26,8 +26,8 @@ returns-else-is_valid c =
     let parse_record_says = c.parse_record-r.ensures in
     let if1_taken = c.if-is_shaped.true in
     let is_shaped_says = c.is_shaped.ensures in
-    let v = ap (valid c.args.plan) (sym (parse_record_says)) ∙ sym (is_valid_says) ∙ if2_left in
-    read_promised (refused2_says ∙ rw (c.requires, sym (is_shaped_says) ∙ if1_taken, v))
+    let v = ap (valid c.args.plan) (sym parse_record_says) ∙ sym is_valid_says ∙ if2_left in
+    read_promised (refused2_says ∙ rw (c.requires, sym is_shaped_says ∙ if1_taken, v))
 
 pub returns : goal.returns
 unfolding reads read_record read_answer read_no
@@ -37,5 +37,5 @@ returns c =
     let parse_record_says = c.parse_record-r.ensures in
     let if1_taken = c.if-is_shaped.true in
     let is_shaped_says = c.is_shaped.ensures in
-    let v = ap (valid c.args.plan) (sym (parse_record_says)) ∙ sym (is_valid_says) ∙ if2_taken in
-    read_promised (rw (parse_record_says, c.requires, sym (is_shaped_says) ∙ if1_taken, v))
+    let v = ap (valid c.args.plan) (sym parse_record_says) ∙ sym is_valid_says ∙ if2_taken in
+    read_promised (rw (parse_record_says, c.requires, sym is_shaped_says ∙ if1_taken, v))

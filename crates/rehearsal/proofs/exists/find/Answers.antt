@@ -26,4 +26,4 @@ returns-in-Cut c =
 pub returns-in-Carry : goal.returns-in-Carry
 returns-in-Carry c =
     let find_record_says = c.find_record.ensures in
-    found_as c.in-Carry.is (find_record_says)
+    found_as c.in-Carry.is find_record_says

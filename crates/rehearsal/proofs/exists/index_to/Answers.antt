@@ -7,7 +7,7 @@ pub returns-then-fixed : goal.returns-then-fixed
 returns-then-fixed c =
     let extend_says = c.extend.ensures in
     let if1_taken = c.if-fixed.true in
-    (extend_says.0, λ h. never (if1_taken) h)
+    (extend_says.0, λ h. never if1_taken h)
 
 pub returns : goal.returns
 returns c = (c.requires, λ h. refl)

@@ -1,12 +1,8 @@
 -- `rehearsal::judging::judge` meets its contract.
 use Rattle.rehearsal.proofs.laws.Steps.{judges_no, judges_go, judges_as, plan_off, none_such, goes_post, retry_low}
-use Rattle.rehearsal.specs.Alone.{here}
-use Rattle.rehearsal.specs.Night.{exists}
 use Rattle.boxes.proofs.laws.Sound.{sound_plan}
-use Rattle.house.specs.Plan.{plan_sound}
 use native.Mathlib.Omega.{arith}
-use mathlib.Core.Bool.{true}
-use mathlib.Core.Path.{◌≡◌, sym, ◌∙◌}
+use mathlib.Core.Path.{sym, ◌∙◌}
 use Rattle.rehearsal.proofs.judging.judge.Goals as goal
 
 pub known_plan-requires : goal.known_plan-requires
@@ -30,93 +26,62 @@ returns-else-is_there c =
 
 pub judge_stand-requires : goal.judge_stand-requires
 judge_stand-requires c =
-    let a = c.args in
     let p = c.requires in
-    let asked : (plan_sound a.plan ≡ true) × (exists a.plan (here a.used) a.post.now a.order ≡ true) = (
-      sym c.known_plan.ensures ∙ c.if-known_plan.true,
-      sym c.is_there.ensures ∙ c.if-is_there.true,
-    ) in
-    ((asked).0, p.0, p.1)
+    let sound = sym c.known_plan.ensures ∙ c.if-known_plan.true in
+    (sound, p.0, p.1)
 
 pub overflow_cast-j : goal.overflow_cast-j
 overflow_cast-j c =
     let a = c.args in
-    let asked : (plan_sound a.plan ≡ true) × (exists a.plan (here a.used) a.post.now a.order ≡ true) = (
-      sym c.known_plan.ensures ∙ c.if-known_plan.true,
-      sym c.is_there.ensures ∙ c.if-is_there.true,
-    ) in
-    let h = rw c.in-Retry.is at (asked).1 in
-    let l = retry_low a.plan a.used a.post.now _ _ (asked).0 h in
+    let sound = sym c.known_plan.ensures ∙ c.if-known_plan.true in
+    let there = sym c.is_there.ensures ∙ c.if-is_there.true in
+    let h = rw c.in-Retry.is at there in
+    let l = retry_low a.plan a.used a.post.now _ _ sound h in
     omega (arith, l)
 
 pub judge_retry-requires : goal.judge_retry-requires
 judge_retry-requires c =
-    let a = c.args in
     let p = c.requires in
-    let asked : (plan_sound a.plan ≡ true) × (exists a.plan (here a.used) a.post.now a.order ≡ true) = (
-      sym c.known_plan.ensures ∙ c.if-known_plan.true,
-      sym c.is_there.ensures ∙ c.if-is_there.true,
-    ) in
-    ((asked).0, p.0, p.1)
+    let sound = sym c.known_plan.ensures ∙ c.if-known_plan.true in
+    (sound, p.0, p.1)
 
 pub judge_carry-requires : goal.judge_carry-requires
 judge_carry-requires c =
-    let a = c.args in
     let p = c.requires in
-    let asked : (plan_sound a.plan ≡ true) × (exists a.plan (here a.used) a.post.now a.order ≡ true) = (
-      sym c.known_plan.ensures ∙ c.if-known_plan.true,
-      sym c.is_there.ensures ∙ c.if-is_there.true,
-    ) in
-    ((asked).0, p.0, p.1, p.2)
+    let sound = sym c.known_plan.ensures ∙ c.if-known_plan.true in
+    (sound, p.0, p.1, p.2)
 
 pub returns-in-Post : goal.returns-in-Post
 returns-in-Post c =
-    let a = c.args in
     let e = c.in-Post.is in
-    let asked : (plan_sound a.plan ≡ true) × (exists a.plan (here a.used) a.post.now a.order ≡ true) = (
-      sym c.known_plan.ensures ∙ c.if-known_plan.true,
-      sym c.is_there.ensures ∙ c.if-is_there.true,
-    ) in
-    let g = goes_post c.args.plan c.args.used c.args.x c.args.post.now _ _ (asked).0 (rw e at (asked).1) in
+    let sound = sym c.known_plan.ensures ∙ c.if-known_plan.true in
+    let there = sym c.is_there.ensures ∙ c.if-is_there.true in
+    let g = goes_post c.args.plan c.args.used c.args.x c.args.post.now _ _ sound (rw e at there) in
     judges_as e (rw c.answered-in-Post.ensures (judges_go g))
 
 pub returns-in-Stand : goal.returns-in-Stand
 returns-in-Stand c =
-    let a = c.args in
     let e = c.in-Stand.is in
-    let asked : (plan_sound a.plan ≡ true) × (exists a.plan (here a.used) a.post.now a.order ≡ true) = (
-      sym c.known_plan.ensures ∙ c.if-known_plan.true,
-      sym c.is_there.ensures ∙ c.if-is_there.true,
-    ) in
-    judges_as e (c.judge_stand.ensures c.args.used _ c.args.post.now (rw e at (asked).1))
+    let there = sym c.is_there.ensures ∙ c.if-is_there.true in
+    judges_as e (c.judge_stand.ensures c.args.used _ c.args.post.now (rw e at there))
 
 pub returns-in-Retry : goal.returns-in-Retry
 returns-in-Retry c =
-    let a = c.args in
     let e = c.in-Retry.is in
-    let asked : (plan_sound a.plan ≡ true) × (exists a.plan (here a.used) a.post.now a.order ≡ true) = (
-      sym c.known_plan.ensures ∙ c.if-known_plan.true,
-      sym c.is_there.ensures ∙ c.if-is_there.true,
-    ) in
-    judges_as e (c.judge_retry.ensures c.args.used _ c.args.post.now (rw e at (asked).1))
+    let there = sym c.is_there.ensures ∙ c.if-is_there.true in
+    judges_as e (c.judge_retry.ensures c.args.used _ c.args.post.now (rw e at there))
 
 pub returns-in-Cut : goal.returns-in-Cut
 returns-in-Cut c =
     let a = c.args in
     let e = c.in-Cut.is in
-    let asked : (plan_sound a.plan ≡ true) × (exists a.plan (here a.used) a.post.now a.order ≡ true) = (
-      sym c.known_plan.ensures ∙ c.if-known_plan.true,
-      sym c.is_there.ensures ∙ c.if-is_there.true,
-    ) in
+    let sound = sym c.known_plan.ensures ∙ c.if-known_plan.true in
+    let there = sym c.is_there.ensures ∙ c.if-is_there.true in
     judges_as e
-    (c.judge_cut.ensures a.plan a.used _ a.x a.post.now (asked).0 c.requires.0 c.requires.1 (rw e at (asked).1))
+    (c.judge_cut.ensures a.plan a.used _ a.x a.post.now sound c.requires.0 c.requires.1 (rw e at there))
 
 pub returns-in-Carry : goal.returns-in-Carry
 returns-in-Carry c =
-    let a = c.args in
     let e = c.in-Carry.is in
-    let asked : (plan_sound a.plan ≡ true) × (exists a.plan (here a.used) a.post.now a.order ≡ true) = (
-      sym c.known_plan.ensures ∙ c.if-known_plan.true,
-      sym c.is_there.ensures ∙ c.if-is_there.true,
-    ) in
-    judges_as e (c.judge_carry.ensures c.args.used _ (c.requires.3 _ e) (rw e at (asked).1))
+    let there = sym c.is_there.ensures ∙ c.if-is_there.true in
+    judges_as e (c.judge_carry.ensures c.args.used _ (c.requires.3 _ e) (rw e at there))

@@ -31,7 +31,7 @@ returns c used k es h =
     carry_bytes c.args.plan used c.args.post.now k c.args.start f.result e.result kind.result n.result es
     kind.ensures n.ensures.0 f.ensures.0 e.ensures.0 in
     carry_judges c.args.plan used c.args.x c.args.post.now k _ _ c.requires.0 h c.requires.2
-    (subst (λ (l : List ℕ). Judging c.args.plan c.args.x l judge_bytes_result.answer judge_bytes_result.rec) w (judge_bytes_says))
+    (subst (λ (l : List ℕ). Judging c.args.plan c.args.x l judge_bytes_result.answer judge_bytes_result.rec) w judge_bytes_says)
 
 pub slice_bounds-judge_bytes-count : goal.slice_bounds-judge_bytes-count
 slice_bounds-judge_bytes-count c =

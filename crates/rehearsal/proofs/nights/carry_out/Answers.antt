@@ -9,7 +9,7 @@ pub step-out-requires : goal.step-out-requires
 step-out-requires c =
     let box_at_result = c.box_at-x.result in
     let box_at_says = c.box_at-x.ensures in
-    let G : Goes c.args.plan c.args.night.used (box_at_result) c.args.post.now c.args.order c.args.r = rw (box_at_says) c.requires.1 in
+    let G : Goes c.args.plan c.args.night.used box_at_result c.args.post.now c.args.order c.args.r = rw box_at_says c.requires.1 in
     (G.plan_is_sound, G.can, G.fits, search rules)
 
 pub settle-s-requires : goal.settle-s-requires
@@ -39,7 +39,7 @@ returns-then-s c =
     q.ensures.0
     q.ensures.1
     q.auto.tray in
-    rw (put_box_says) (turned_does G q.result q.ensures.0 c.args.night c.args.at U _ _ W.1 S.result S.ensures (if1_taken))
+    rw put_box_says (turned_does G q.result q.ensures.0 c.args.night c.args.at U _ _ W.1 S.result S.ensures if1_taken)
 
 pub returns : goal.returns
 returns c =
@@ -60,4 +60,4 @@ returns c =
     q.ensures.0
     q.ensures.1
     q.auto.tray in
-    turned_full G q.result q.ensures.0 c.args.night c.args.at U _ _ W.1 S.result S.ensures (if1_left)
+    turned_full G q.result q.ensures.0 c.args.night c.args.at U _ _ W.1 S.result S.ensures if1_left

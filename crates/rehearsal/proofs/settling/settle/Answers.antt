@@ -30,7 +30,7 @@ put_behind-requires c =
     let if2_taken = c.if-more_fits.true in
     let more_fits_says = c.more_fits.ensures in
     let m = c.room_of-room in
-    let k : c.args.used + c.args.more ≤ m.result = leb-true (c.args.used + c.args.more) m.result (sym (more_fits_says) ∙ if2_taken) in
+    let k : c.args.used + c.args.more ≤ m.result = leb-true (c.args.used + c.args.more) m.result (sym more_fits_says ∙ if2_taken) in
     let r : m.result ≤ length c.args.post.now = m.ensures.1 in
     let n : length (take c.args.more c.args.tray.now) ≡ c.args.more = length-take-le c.args.more c.args.tray.now c.requires in
     let g : c.args.used + length (take (c.args.more - 0) c.args.tray.now) ≤ length c.args.post.now = rw (sub-zero, n) (omega (arith, k, r)) in
@@ -42,7 +42,7 @@ overflow_add-result c =
     let more_fits_says = c.more_fits.ensures in
     let a = c.args in
     let m = c.room_of-room in
-    let k : a.used + a.more ≤ m.result = leb-true (a.used + a.more) m.result (sym (more_fits_says) ∙ if2_taken) in
+    let k : a.used + a.more ≤ m.result = leb-true (a.used + a.more) m.result (sym more_fits_says ∙ if2_taken) in
     let r : m.result ≡ room_of a.post.now = m.ensures.0 in
     let f : room_of a.post.now ≤ most_post = room_few a.post.now in
     omega (arith, k, r, f)
@@ -55,7 +55,7 @@ returns-then-more_fits c =
     let more_fits_says = c.more_fits.ensures in
     let room_of_says = c.room_of-room.ensures in
     let a = c.args in
-    let m : leb (a.used + a.more) (room_of a.post.now) ≡ true = rw (← room_of_says.0) (sym (more_fits_says) ∙ if2_taken) in
+    let m : leb (a.used + a.more) (room_of a.post.now) ≡ true = rw (← room_of_says.0) (sym more_fits_says ∙ if2_taken) in
     record {
       fits_is = sym (or_right (eqb a.more 0) (leb (a.used + a.more) (room_of a.post.now)) m);
       used_is = refl;
@@ -70,5 +70,5 @@ returns c =
     let room_of_says = c.room_of-room.ensures in
     let if1_left = c.if-more-eq0.false in
     let a = c.args in
-    let m : leb (a.used + a.more) (room_of a.post.now) ≡ false = rw (← room_of_says.0) (sym (more_fits_says) ∙ if2_left) in
-    record { fits_is = rw (ne_eqb a.more 0 (if1_left), m); used_is = refl; post_is = refl }
+    let m : leb (a.used + a.more) (room_of a.post.now) ≡ false = rw (← room_of_says.0) (sym more_fits_says ∙ if2_left) in
+    record { fits_is = rw (ne_eqb a.more 0 if1_left, m); used_is = refl; post_is = refl }

@@ -29,7 +29,7 @@ returns-then-committed c =
     let d = c.put_decimal in
     let q = c.put_item in
     let v : stamp_text a.committed a.stamp.time a.stamp.district.0 ≡ item a.stamp.time ++ item a.stamp.district.0 =
-    pick_true _ _ (if1_taken) in
+    pick_true _ _ if1_taken in
     let s =
     then
     (space ∷ [])
@@ -64,5 +64,5 @@ returns c =
     let if1_left = c.if-committed.false in
     let a = c.args in
     let p = c.put in
-    let v : stamp_text a.committed a.stamp.time a.stamp.district.0 ≡ space ∷ 45 ∷ space ∷ 45 ∷ [] = pick_false _ _ (if1_left) in
+    let v : stamp_text a.committed a.stamp.time a.stamp.district.0 ≡ space ∷ 45 ∷ space ∷ 45 ∷ [] = pick_false _ _ if1_left in
     (omega (arith, p.ensures.0), p.ensures.0 ∙ ap length (sym v), p.ensures.1 ∙ ap (λ (l : List ℕ). onto l a.t.now) (sym v))

@@ -13,7 +13,7 @@ returns-then-first c =
     let if1_taken = c.if-first.true in
     let a = c.args in
     let p = c.put in
-    let v = sym (pick_true a.a.now a.b.now (if1_taken)) in
+    let v = sym (pick_true a.a.now a.b.now if1_taken) in
     (omega (arith, p.ensures.0), p.ensures.0 ∙ ap length v, p.ensures.1 ∙ ap (λ (l : List ℕ). onto l a.t.now) v)
 
 pub returns : goal.returns
@@ -21,5 +21,5 @@ returns c =
     let if1_left = c.if-first.false in
     let a = c.args in
     let p = c.put-2 in
-    let v = sym (pick_false a.a.now a.b.now (if1_left)) in
+    let v = sym (pick_false a.a.now a.b.now if1_left) in
     (omega (arith, p.ensures.0), p.ensures.0 ∙ ap length v, p.ensures.1 ∙ ap (λ (l : List ℕ). onto l a.t.now) v)

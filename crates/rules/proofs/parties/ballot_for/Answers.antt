@@ -11,7 +11,7 @@ returns-then-named c =
     let if1_taken = c.if-named.true in
     let named_says = c.named.ensures in
     let ballot_at_says = c.ballot_at-b.ensures in
-    ballot_in_says ∙ rw (ballot_at_says) (sym (pick_true _ _ (sym (named_says) ∙ if1_taken)))
+    ballot_in_says ∙ rw ballot_at_says (sym (pick_true _ _ (sym named_says ∙ if1_taken)))
 
 pub returns : goal.returns
 unfolding ballot_for
@@ -20,4 +20,4 @@ returns c =
     let if1_left = c.if-named.false in
     let named_says = c.named.ensures in
     let ballot_at_says = c.ballot_at-b.ensures in
-    is_no_ballot_says ∙ rw (ballot_at_says) (sym (pick_false _ _ (sym (named_says) ∙ if1_left)))
+    is_no_ballot_says ∙ rw ballot_at_says (sym (pick_false _ _ (sym named_says ∙ if1_left)))

@@ -15,6 +15,10 @@ use Rattle.records.specs.Rec.{Rec}
 use Rattle.boxes.specs.Box.{put_sent}
 use Rattle.boxes.specs.Ready.{next_ready, hand_turns, hand_out}
 use Rattle.boxes.specs.declared.Volatile.{Volatile}
+use Rattle.boxes.specs.declared.Core.{Core}
+use Rattle.boxes.specs.declared.BoxState.{BoxState}
+use Rattle.house.specs.declared.Plan.{Plan}
+use mathlib.Core.Bool.{Bool}
 use Rattle.records.proofs.laws.Bytes.{encode_none}
 use Rattle.sending.specs.Turns.{box_of, delivers_from}
 use Rattle.sending.proofs.laws.Turns.{turn_none, turns_stay, Turn, turn}
@@ -25,6 +29,13 @@ use Rattle.sending.proofs.handing.hand_out.Goals as goal
 low : {j n : ℕ} → (j ≡ no_job) ⊎ (j < n) → (j ≡ no_job → ⊥) → n ≤ 64 → j < 64
 low (inl e) h k = absurd (h e)
 low (inr l) h k = omega arith
+
+-- one turn with ready job j, of a box with this core: what next_ready says of any such box
+turning : (P : Plan) (c : Core) (v : Volatile) (i : ℕ) (sent : List Bool) (j : ℕ) → put_sent (box_of c v) sent ≡ (hand_turns P (box_of c v) i).box
+    → ((Q : Plan) (x : BoxState) → Q.jobs ≡ P.jobs → x.core.table ≡ c.table → x.core.sent ≡ sent → j ≡ next_ready Q x)
+    → (j ≡ no_job → ⊥) → i < P.jobs
+    → Turn P (box_of c v) i P.jobs sent j (delivers_from P c.own c.cballot (get_or c.table j no_row) j)
+turning P c v i sent j held says some l = turn P (box_of c v) i P.jobs sent j held (says P (put_sent (box_of c v) sent) refl refl refl) some l
 
 pub loop-i-init : goal.loop-i-init
 loop-i-init c =
@@ -56,87 +67,50 @@ returns-then-job c =
 
 pub offset_bounds-table-at : goal.offset_bounds-table-at
 offset_bounds-table-at c =
-    let low_job : c.next_ready-job.result < 64 = low c.next_ready-job.ensures.1 c.if-job.false c.loop-i.invariant.1 in
-    let l = low_job in search rules
+    let l : c.next_ready-job.result < 64 = low c.next_ready-job.ensures.1 c.if-job.false c.loop-i.invariant.1 in search rules
 
 pub bounds-table-at : goal.bounds-table-at
 bounds-table-at c =
-    let low_job : c.next_ready-job.result < 64 = low c.next_ready-job.ensures.1 c.if-job.false c.loop-i.invariant.1 in
-    low_job
+    low c.next_ready-job.ensures.1 c.if-job.false c.loop-i.invariant.1
 
 pub hand_job-s-requires : goal.hand_job-s-requires
 hand_job-s-requires c =
-    let j = c.next_ready-job.result in
     let a = c.args in
     let l = c.loop-i in
-    let if1_left = c.if-job.false in
-    let next_ready_says = c.next_ready-job.ensures in
-    let next_ready_result = c.next_ready-job.result in
-    let loop_test_taken = c.loop-i-test.true in
-    let asked = c.requires in
-    let more : List Rec = delivers_from a.plan a.c.own a.c.cballot (get_or a.c.table j no_row) j in
-    let turning : (v : Volatile) → Turn a.plan (box_of a.c v) l.i a.plan.jobs l.sent c.next_ready-job.result more =
-    λ v. let e = next_ready_says.0 a.plan (put_sent (box_of a.c v) l.sent) refl refl refl in
-    turn a.plan (box_of a.c v) l.i a.plan.jobs l.sent next_ready_result (l.invariant.5 v).0 e if1_left
-    loop_test_taken in
-    let fitting : c.loop-i.used + length (encode_all a.plan more) ≤ length a.t.now = let r = asked.1 in
-    let g = turning r.0 in omega (arith, g.fits, (l.invariant.5 r.0).1, r.1) in
-    let f = fitting in (
-      asked.0,
-      rw (rest_of l.used l.t, length-drop) (omega (arith, f, l.invariant.2)),
-    )
+    let r = c.requires.1 in
+    let p = l.invariant.5 r.0 in
+    let g = turning a.plan a.c r.0 l.i l.sent _ p.0 c.next_ready-job.ensures.0 c.if-job.false c.loop-i-test.true in
+    (c.requires.0, rw (rest_of l.used l.t, length-drop) (omega (arith, g.fits, p.1, r.1, l.invariant.2)))
 
 pub overflow_add-used : goal.overflow_add-used
 overflow_add-used c =
-    let j = c.next_ready-job.result in
     let a = c.args in
     let l = c.loop-i in
-    let if1_left = c.if-job.false in
-    let next_ready_says = c.next_ready-job.ensures in
-    let next_ready_result = c.next_ready-job.result in
-    let loop_test_taken = c.loop-i-test.true in
-    let asked = c.requires in
-    let more : List Rec = delivers_from a.plan a.c.own a.c.cballot (get_or a.c.table j no_row) j in
-    let turning : (v : Volatile) → Turn a.plan (box_of a.c v) l.i a.plan.jobs l.sent c.next_ready-job.result more =
-    λ v. let e = next_ready_says.0 a.plan (put_sent (box_of a.c v) l.sent) refl refl refl in
-    turn a.plan (box_of a.c v) l.i a.plan.jobs l.sent next_ready_result (l.invariant.5 v).0 e if1_left
-    loop_test_taken in
-    let fitting : c.loop-i.used + length (encode_all a.plan more) ≤ length a.t.now = let r = asked.1 in
-    let g = turning r.0 in omega (arith, g.fits, (l.invariant.5 r.0).1, r.1) in
-    let f = fitting in
-    omega (arith, f, c.hand_job-s.ensures.0)
+    let r = c.requires.1 in
+    let p = l.invariant.5 r.0 in
+    let g = turning a.plan a.c r.0 l.i l.sent _ p.0 c.next_ready-job.ensures.0 c.if-job.false c.loop-i-test.true in
+    omega (arith, g.fits, p.1, r.1, c.hand_job-s.ensures.0)
 
 pub bounds-sent-at : goal.bounds-sent-at
 bounds-sent-at c =
-    let low_job : c.next_ready-job.result < 64 = low c.next_ready-job.ensures.1 c.if-job.false c.loop-i.invariant.1 in
-    low_job
+    low c.next_ready-job.ensures.1 c.if-job.false c.loop-i.invariant.1
 
 pub loop-i-preserved : goal.loop-i-preserved
 loop-i-preserved c =
-    let j = c.next_ready-job.result in
     let a = c.args in
     let l = c.loop-i in
-    let if1_left = c.if-job.false in
-    let next_ready_says = c.next_ready-job.ensures in
-    let next_ready_result = c.next_ready-job.result in
-    let loop_test_taken = c.loop-i-test.true in
-    let asked = c.requires in
     let q = c.hand_job-s in
-    let more : List Rec = delivers_from a.plan a.c.own a.c.cballot (get_or a.c.table j no_row) j in
-    let turning : (v : Volatile) → Turn a.plan (box_of a.c v) l.i a.plan.jobs l.sent c.next_ready-job.result more =
-    λ v. let e = next_ready_says.0 a.plan (put_sent (box_of a.c v) l.sent) refl refl refl in
-    turn a.plan (box_of a.c v) l.i a.plan.jobs l.sent next_ready_result (l.invariant.5 v).0 e if1_left
-    loop_test_taken in
-    let fitting : c.loop-i.used + length (encode_all a.plan more) ≤ length a.t.now = let r = asked.1 in
-    let g = turning r.0 in omega (arith, g.fits, (l.invariant.5 r.0).1, r.1) in
-    let f = fitting in (
+    let more : List Rec = delivers_from a.plan a.c.own a.c.cballot (get_or a.c.table c.next_ready-job.result no_row) c.next_ready-job.result in
+    let go = λ (v : Volatile).
+    turning a.plan a.c v l.i l.sent c.next_ready-job.result (l.invariant.5 v).0 c.next_ready-job.ensures.0 c.if-job.false c.loop-i-test.true in
+    let r = c.requires.1 in (
       omega (arith, c.loop-i-test.true),
       l.invariant.1,
       search rules,
       omega (arith, q.ensures.3, l.invariant.3),
-      omega (arith, f, q.ensures.0),
+      omega (arith, (go r.0).fits, (l.invariant.5 r.0).1, r.1, q.ensures.0),
       λ v.
-          let g = turning v in let p = l.invariant.5 v in let old = encode_all a.plan (hand_turns a.plan (box_of a.c v) l.i).sent in (
+          let g = go v in let p = l.invariant.5 v in let old = encode_all a.plan (hand_turns a.plan (box_of a.c v) l.i).sent in (
             g.box,
             rw (p.1, q.ensures.0) g.count,
             rw (p.2, q.ensures.1) g.number,

@@ -11,7 +11,7 @@ unfolding one_job
 returns-then-jobs-ge-MOST_JOBS c =
     let if1_taken = c.if-jobs-ge-MOST_JOBS.true in
     let given = c.args in
-    let d = given.desk in ap (λ (P : Plan). record { plan = P; drawn = d.drawn; fixed = d.fixed }) (sym (pick_true _ _ (le-leb _ _ (if1_taken))))
+    let d = given.desk in ap (λ (P : Plan). record { plan = P; drawn = d.drawn; fixed = d.fixed }) (sym (pick_true _ _ (le-leb _ _ if1_taken)))
 
 pub returns : goal.returns
 unfolding one_job
@@ -20,4 +20,4 @@ returns c =
     let if1_left = c.if-jobs-ge-MOST_JOBS.false in
     let given = c.args in
     let d = given.desk in
-    rw (as_byte_says) (ap (λ (P : Plan). record { plan = P; drawn = d.drawn; fixed = d.fixed }) (sym (pick_false _ _ (lt-leb _ _ (if1_left)))))
+    rw as_byte_says (ap (λ (P : Plan). record { plan = P; drawn = d.drawn; fixed = d.fixed }) (sym (pick_false _ _ (lt-leb _ _ if1_left))))

@@ -104,7 +104,7 @@ loop-from-preserved-then-r c =
     c.turn-r.ensures
     c.turn-r.auto.post
     (search rules)
-    (if2_taken)
+    if2_taken
 
 pub loop-from-smaller-else-r : goal.loop-from-smaller-else-r
 loop-from-smaller-else-r c =
@@ -123,7 +123,7 @@ loop-from-preserved-else-r c =
     c.turn-r.ensures
     c.turn-r.auto.post
     (search rules)
-    (if2_left)
+    if2_left
 
 pub loop-from-smaller : goal.loop-from-smaller
 loop-from-smaller c =

@@ -15,7 +15,7 @@ unfolding last_of
 returns-then-line-eq0 c =
     let if1_taken = c.if-line-eq0.true in
     let a = c.args in
-    let v : within a.s a.post.now ≡ last_of a.s a.post.now = sym (pick_true _ _ (eq-eqb _ _ (if1_taken))) in
+    let v : within a.s a.post.now ≡ last_of a.s a.post.now = sym (pick_true _ _ (eq-eqb _ _ if1_taken)) in
     leaves_as v (record { fed = refl; post = refl; text = sym (onto_nil a.t.now) })
 
 pub returns : goal.returns
@@ -25,5 +25,5 @@ returns c =
     let if1_left = c.if-line-eq0.false in
     let a = c.args in
     let v : chunk_of a.s a.post.now (line_feed ∷ []) ≡ last_of a.s a.post.now =
-    byte_ends (within a.s a.post.now) ∙ sym (pick_false _ _ (ne_eqb _ _ (if1_left))) in
+    byte_ends (within a.s a.post.now) ∙ sym (pick_false _ _ (ne_eqb _ _ if1_left)) in
     leaves_as v q

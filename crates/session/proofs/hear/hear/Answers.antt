@@ -46,4 +46,4 @@ unfolding handled
 returns-in-Unreadable c =
     let hear_unread_says = c.hear_unread.ensures in
     let a = c.args in
-    hears_as c.in-Unreadable.is (hears_plain a.desk unread (λ n. refl) (λ q. refl) (hear_unread_says))
+    hears_as c.in-Unreadable.is (hears_plain a.desk unread (λ n. refl) (λ q. refl) hear_unread_says)

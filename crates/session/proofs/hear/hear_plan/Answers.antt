@@ -21,4 +21,4 @@ returns c =
     let hear_unread_says = c.hear_unread.ensures in
     let h = c.if-here.false in
     let a = c.args in
-    plain_as (sym (pick_false a.next a.desk h)) (sym (pick_false [] _ h)) (hear_unread_says)
+    plain_as (sym (pick_false a.next a.desk h)) (sym (pick_false [] _ h)) hear_unread_says

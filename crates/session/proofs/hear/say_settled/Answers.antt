@@ -7,11 +7,11 @@ unfolding pick
 returns-then-fits c =
     let q = c.answer_line.ensures in
     let if1_taken = c.if-fits.true in
-    rw (if1_taken) q
+    rw if1_taken q
 
 pub returns : goal.returns
 unfolding pick
 returns c =
     let q = c.answer_line-2.ensures in
     let if1_left = c.if-fits.false in
-    rw (if1_left) q
+    rw if1_left q

@@ -40,7 +40,7 @@ returns c =
       low = omega (arith, h);
       part = λ f. never refl f;
       whole = λ f. (
-        rw (order_of_says) at (find_says),
+        rw order_of_says at find_says,
         λ r l.
             line_turn
             r
@@ -56,6 +56,6 @@ returns c =
             ∙
             ap
             (λ (z : LineState). record { line = z; state = act (all_read act r (take a.from a.chunk.now)).state o.result })
-            (sym (nothing_is (no_line_says))),
+            (sym (nothing_is no_line_says)),
       );
     }

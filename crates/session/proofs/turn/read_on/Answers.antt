@@ -36,7 +36,7 @@ loop-i-preserved c =
     let a = c.args in
     let l = c.loop-i in
     let h : l.i < length a.chunk.now = omega (arith, loop_test_taken, l.invariant.2) in
-    let nf : eqb (get_or a.chunk.now l.i 0) line_feed ≡ false = ne_eqb _ _ (if1_left) in (
+    let nf : eqb (get_or a.chunk.now l.i 0) line_feed ≡ false = ne_eqb _ _ if1_left in (
       omega (arith, l.invariant.0),
       omega (arith, h, l.invariant.2),
       l.invariant.2,
@@ -45,7 +45,7 @@ loop-i-preserved c =
           ∙
           ap
           (λ (z : LineState). record { line = z; state = (all_read act q (take a.from a.chunk.now)).state })
-          (sym (byte_is l.cur (get_or a.chunk.now l.i 0) (push_says))),
+          (sym (byte_is l.cur (get_or a.chunk.now l.i 0) push_says)),
     )
 
 pub returns : goal.returns

@@ -16,7 +16,7 @@ step-out-requires c =
     let order_of_says = c.order_of-order.ensures in
     let if1_taken = c.if-h.true in
     let hear_says = c.hear-h.ensures in
-    let s = can_step (hear_says) (if1_taken) (order_of_says) in (s.0, s.1, s.2, refl)
+    let s = can_step hear_says if1_taken order_of_says in (s.0, s.1, s.2, refl)
 
 pub slice_bounds-finish-end : goal.slice_bounds-finish-end
 slice_bounds-finish-end c = sym c.step-out.auto.tray
@@ -47,4 +47,4 @@ pub returns : goal.returns
 returns c =
     let if1_left = c.if-h.false in
     let hear_says = c.hear-h.ensures in
-    turns_passed (hear_says) (if1_left)
+    turns_passed hear_says if1_left

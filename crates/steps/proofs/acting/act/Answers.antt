@@ -88,7 +88,7 @@ returns-in-4 c =
     let a = c.args in let k = c.in-4.is in
     let e = react_4 a.plan a.x a.r k in let d = rw (judged_4 a.plan a.x a.r k) at c.requires.1 in
     let v = deliver_is a.plan a.x a.r.job (record { ballot = ballot_no a.r 0; local = stamp_no a.r 0; global = stamp_no a.r 1 }) d in
-    (rw e (do_deliver_says), rw (e, v, encode_none a.plan) (sym (onto_nil a.tray.now)))
+    (rw e do_deliver_says, rw (e, v, encode_none a.plan) (sym (onto_nil a.tray.now)))
 
 pub returns-in-5 : goal.returns-in-5
 returns-in-5 c =

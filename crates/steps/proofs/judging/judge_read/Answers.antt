@@ -53,10 +53,10 @@ returns-in-Done c =
     c.args.x
     s
     c.requires.0
-    (judge_record_result)
+    judge_record_result
     c.args.r
     (owned_lengths c.args.x _ c.well_formed.1.0.1.1)
     t.read
     t.parsed
     t.is_valid
-    (judge_record_says)
+    judge_record_says

@@ -7,10 +7,10 @@ returns-then-to-own c =
     let judge_says = c.judge.ensures in
     let if1_taken = c.if-to-own.true in
     let a = c.args in
-    rw (eq-eqb a.r.to.0 a.x.core.own.0 (if1_taken)) (judge_says)
+    rw (eq-eqb a.r.to.0 a.x.core.own.0 if1_taken) judge_says
 
 pub returns : goal.returns
 returns c =
     let if1_left = c.if-to-own.false in
     let a = c.args in
-    rw (ne_eqb a.r.to.0 a.x.core.own.0 (if1_left))
+    rw (ne_eqb a.r.to.0 a.x.core.own.0 if1_left)

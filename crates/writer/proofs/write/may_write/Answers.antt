@@ -20,7 +20,7 @@ returns-else-is_valid c =
     let if2_taken = c.if-room-ge-LEAST_TRAY.true in
     let if1_taken = c.if-plan_sound.true in
     let plan_sound_says = c.plan_sound.ensures in
-    rw (sym (plan_sound_says) ∙ if1_taken, le-leb _ _ (if2_taken), sym (is_valid_says) ∙ if3_left)
+    rw (sym plan_sound_says ∙ if1_taken, le-leb _ _ if2_taken, sym is_valid_says ∙ if3_left)
 
 pub returns : goal.returns
 unfolding write_answer write_no
@@ -30,4 +30,4 @@ returns c =
     let if2_taken = c.if-room-ge-LEAST_TRAY.true in
     let if1_taken = c.if-plan_sound.true in
     let plan_sound_says = c.plan_sound.ensures in
-    rw (sym (plan_sound_says) ∙ if1_taken, le-leb _ _ (if2_taken), sym (is_valid_says) ∙ if3_taken)
+    rw (sym plan_sound_says ∙ if1_taken, le-leb _ _ if2_taken, sym is_valid_says ∙ if3_taken)

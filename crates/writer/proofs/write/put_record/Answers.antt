@@ -14,24 +14,31 @@ use Rattle.records.specs.Format.{ballots_in, stamps_in, rows_in}
 use Rattle.laws.proofs.laws.Tray.{then}
 use native.Mathlib.Omega.{arith}
 use mathlib.Core.Path.{◌≡◌, sym, ◌∙◌}
+use Rattle.house.specs.Plan.{plan_sound}
+use Rattle.house.specs.declared.Plan.{Plan}
+use Rattle.records.specs.declared.Record.{Record}
+use mathlib.Core.Bool.{true}
 use Rattle.writer.proofs.write.put_record.Goals as goal
+
+-- the room that the sections ask for
+room : (P : Plan) (r : Record) (n : ℕ) → plan_sound P ≡ true → Arrays r → length (encode P r) ≤ n
+    → 8 + ballots_in P r.kind * 3 + stamps_in r.kind * 5 + rows_in P r.kind * 11 ≤ n
+room P r n s held h = rw (← encode_sum P r s held) h
 
 pub put_head-a-requires : goal.put_head-a-requires
 put_head-a-requires c =
     let a = c.args in
-    let arrays : Arrays c.args.r = record { ballots = search rules; stamps = search rules; table = search rules } in
-    let room : 8 + ballots_in a.plan a.r.kind * 3 + stamps_in a.r.kind * 5 + rows_in a.plan a.r.kind * 11 ≤ length a.t.now =
-    rw (← encode_sum a.plan a.r c.requires.0 arrays) c.requires.1 in
-    omega (arith, room)
+    let held : Arrays a.r = record { ballots = search rules; stamps = search rules; table = search rules } in
+    let enough = room a.plan a.r (length a.t.now) c.requires.0 held c.requires.1 in
+    omega (arith, enough)
 
 pub slice_bounds-put_ballots-count : goal.slice_bounds-put_ballots-count
 slice_bounds-put_ballots-count c =
     let a = c.args in
     let p = c.put_head-a in
-    let arrays : Arrays c.args.r = record { ballots = search rules; stamps = search rules; table = search rules } in
-    let room : 8 + ballots_in a.plan a.r.kind * 3 + stamps_in a.r.kind * 5 + rows_in a.plan a.r.kind * 11 ≤ length a.t.now =
-    rw (← encode_sum a.plan a.r c.requires.0 arrays) c.requires.1 in
-    omega (arith, room, p.ensures.0, p.auto.t)
+    let held : Arrays a.r = record { ballots = search rules; stamps = search rules; table = search rules } in
+    let enough = room a.plan a.r (length a.t.now) c.requires.0 held c.requires.1 in
+    omega (arith, enough, p.ensures.0, p.auto.t)
 
 pub slice_bounds-put_ballots-start : goal.slice_bounds-put_ballots-start
 slice_bounds-put_ballots-start c = slice_bounds-put_ballots-count c
@@ -43,20 +50,18 @@ put_ballots-requires c =
     let ballots_in_result = c.ballots_in.result in
     let asked = c.requires in
     let p = c.put_head-a in
-    let arrays : Arrays c.args.r = record { ballots = search rules; stamps = search rules; table = search rules } in
-    let room : 8 + ballots_in a.plan a.r.kind * 3 + stamps_in a.r.kind * 5 + rows_in a.plan a.r.kind * 11 ≤ length a.t.now =
-    rw (← encode_sum a.plan a.r c.requires.0 arrays) c.requires.1 in
-    let h : p.result + (1 + ballots_in_result * 3) ≤ length a.t.now = omega (arith, room, p.ensures.0, e) in
+    let held : Arrays a.r = record { ballots = search rules; stamps = search rules; table = search rules } in
+    let enough = room a.plan a.r (length a.t.now) c.requires.0 held c.requires.1 in
+    let h : p.result + (1 + ballots_in_result * 3) ≤ length a.t.now = omega (arith, enough, p.ensures.0, e) in
     (rw e (ballots_most a.plan a.r.kind asked.0), rest_room p.result (1 + ballots_in_result * 3) _ p.new.t p.auto.t h)
 
 pub slice_bounds-put_stamps-count : goal.slice_bounds-put_stamps-count
 slice_bounds-put_stamps-count c =
     let a = c.args in
     let ballots_in_says = c.ballots_in.ensures in
-    let arrays : Arrays c.args.r = record { ballots = search rules; stamps = search rules; table = search rules } in
-    let room : 8 + ballots_in a.plan a.r.kind * 3 + stamps_in a.r.kind * 5 + rows_in a.plan a.r.kind * 11 ≤ length a.t.now =
-    rw (← encode_sum a.plan a.r c.requires.0 arrays) c.requires.1 in
-    search (rules, room, ballots_in_says)
+    let held : Arrays a.r = record { ballots = search rules; stamps = search rules; table = search rules } in
+    let enough = room a.plan a.r (length a.t.now) c.requires.0 held c.requires.1 in
+    search (rules, enough, ballots_in_says)
 
 pub slice_bounds-put_stamps-start : goal.slice_bounds-put_stamps-start
 slice_bounds-put_stamps-start c = slice_bounds-put_stamps-count c
@@ -69,13 +74,12 @@ put_stamps-requires c =
     let ballots_in_says = c.ballots_in.ensures in
     let p = c.put_head-a in
     let q = c.put_ballots in
-    let arrays : Arrays c.args.r = record { ballots = search rules; stamps = search rules; table = search rules } in
-    let room : 8 + ballots_in a.plan a.r.kind * 3 + stamps_in a.r.kind * 5 + rows_in a.plan a.r.kind * 11 ≤ length a.t.now =
-    rw (← encode_sum a.plan a.r c.requires.0 arrays) c.requires.1 in
+    let held : Arrays a.r = record { ballots = search rules; stamps = search rules; table = search rules } in
+    let enough = room a.plan a.r (length a.t.now) c.requires.0 held c.requires.1 in
     let l : List ℕ = put_mid p.result (length p.new.t - p.result) p.new.t q.new.t in
     let k : length l ≡ length a.t.now = search rules in
     let h : p.result + q.result + (1 + stamps_in_result * 5) ≤ length a.t.now =
-    omega (arith, room, p.ensures.0, q.ensures.0, ballots_in_says, e) in
+    omega (arith, enough, p.ensures.0, q.ensures.0, ballots_in_says, e) in
     (rw e (stamps_most a.r.kind), rest_room (p.result + q.result) (1 + stamps_in_result * 5) _ l k h)
 
 pub slice_bounds-put_rows-count : goal.slice_bounds-put_rows-count
@@ -83,10 +87,9 @@ slice_bounds-put_rows-count c =
     let a = c.args in
     let stamps_in_says = c.stamps_in.ensures in
     let ballots_in_says = c.ballots_in.ensures in
-    let arrays : Arrays c.args.r = record { ballots = search rules; stamps = search rules; table = search rules } in
-    let room : 8 + ballots_in a.plan a.r.kind * 3 + stamps_in a.r.kind * 5 + rows_in a.plan a.r.kind * 11 ≤ length a.t.now =
-    rw (← encode_sum a.plan a.r c.requires.0 arrays) c.requires.1 in
-    search (rules, room, ballots_in_says, stamps_in_says)
+    let held : Arrays a.r = record { ballots = search rules; stamps = search rules; table = search rules } in
+    let enough = room a.plan a.r (length a.t.now) c.requires.0 held c.requires.1 in
+    search (rules, enough, ballots_in_says, stamps_in_says)
 
 pub slice_bounds-put_rows-start : goal.slice_bounds-put_rows-start
 slice_bounds-put_rows-start c = slice_bounds-put_rows-count c
@@ -102,23 +105,21 @@ put_rows-requires c =
     let p = c.put_head-a in
     let q = c.put_ballots in
     let s = c.put_stamps in
-    let arrays : Arrays c.args.r = record { ballots = search rules; stamps = search rules; table = search rules } in
-    let room : 8 + ballots_in a.plan a.r.kind * 3 + stamps_in a.r.kind * 5 + rows_in a.plan a.r.kind * 11 ≤ length a.t.now =
-    rw (← encode_sum a.plan a.r c.requires.0 arrays) c.requires.1 in
+    let held : Arrays a.r = record { ballots = search rules; stamps = search rules; table = search rules } in
+    let enough = room a.plan a.r (length a.t.now) c.requires.0 held c.requires.1 in
     let l : List ℕ = put_mid p.result (length p.new.t - p.result) p.new.t q.new.t in
     let m : List ℕ = put_mid (p.result + q.result) (length l - (p.result + q.result)) l s.new.t in
     let k : length m ≡ length a.t.now = search rules in
     let h : p.result + q.result + s.result + (1 + rows_in_result * 11) ≤ length a.t.now =
-    omega (arith, room, p.ensures.0, q.ensures.0, s.ensures.0, ballots_in_says, stamps_in_says, e) in
+    omega (arith, enough, p.ensures.0, q.ensures.0, s.ensures.0, ballots_in_says, stamps_in_says, e) in
     (rw e (rows_most a.plan a.r.kind asked.0), rest_room (p.result + q.result + s.result) (1 + rows_in_result * 11) _ m k h)
 
 pub returns : goal.returns
 unfolding encode head_bytes ballot_bytes stamp_bytes row_bytes ballots stamps rows
 returns c =
-    let arrays : Arrays c.args.r = record { ballots = search rules; stamps = search rules; table = search rules } in
     let a = c.args in
     let asked = c.requires in
-    let A = arrays in
+    let A : Arrays a.r = record { ballots = search rules; stamps = search rules; table = search rules } in
     let p = c.put_head-a in let q = c.put_ballots in let s = c.put_stamps in let t = c.put_rows in
     let nb = c.ballots_in in let ns = c.stamps_in in let nr = c.rows_in in
     let B = section nb.result (enc_row ballots (take nb.result a.r.ballots)) in
