@@ -2,8 +2,6 @@
 pub mod Answers
 pub mod Promise
 pub mod Examples
-pub mod Long
-pub mod Ends
 pub mod Listing
 pub mod Parts
 pub mod Sound

@@ -1,5 +1,5 @@
 -- 2 ACCEPT: proposals are kept, and once all are there the job is accepted (Figure 4, lines 10-16).
-use Rattle.std.specs.Prelude.{ℕ, Bool, not, ◌&&◌, ◌||◌, List, [], ◌∷◌, eqb}
+use Rattle.std.specs.Prelude.{ℕ, Bool, not, ◌&&◌, ◌||◌, List, [], ◌∷◌, eqb, None}
 use Rattle.laws.specs.Choice.{pick}
 use Rattle.laws.specs.Fold.{upto, all_below}
 use Rattle.house.specs.Limits.{accepted_phase, committed_phase}
@@ -12,15 +12,13 @@ use Rattle.house.specs.declared.Row.{Row}
 use Rattle.house.specs.Plan.{home_of, names}
 use Rattle.house.specs.declared.Plan.{Plan}
 use Rattle.house.specs.Marks.{no_marks}
-use Rattle.records.specs.Answers.{not_named, wrong_status, wrong_ballot, or_no}
+use Rattle.records.specs.Answers.{or_no, Answer, done}
+use Rattle.records.specs.declared.answers.Refusal.TheVariants.{NotNamed, WrongStatus, WrongBallot}
 use Rattle.records.specs.Rec.{Rec, accept_ack}
 use Rattle.records.specs.declared.Proposal.{Proposal}
-use Rattle.records.specs.declared.Answer.{Answer}
-use Rattle.records.specs.declared.Answer.TheVariants.{Done}
 use Rattle.boxes.specs.Box.{is_recovering, own_of, home_in, row_at, kept_ballot, kept_stamp, marks_at, put_row, put_kept, raised}
 use Rattle.boxes.specs.Out.{Out, does, to_each, under}
 use Rattle.boxes.specs.declared.BoxState.{BoxState}
-use Rattle.boxes.specs.declared.Delivery.TheVariants.{Nothing}
 
 -- the same ACCEPT is kept already
 unfoldable pub same_kept : BoxState → ℕ → District → Proposal → Bool
@@ -75,16 +73,16 @@ unfoldable pub acks : Plan → BoxState → ℕ → List Rec
 acks P x j = to_each P (kept_leader P x j) (λ to. accept_ack (own_of x) to j (kept_vector P x j))
 
 unfoldable pub when_kept : Plan → BoxState → ℕ → Out
-when_kept P x j = pick (all_kept P x j) (does (accepted P x j) (acks P (accepted P x j) j) Nothing) (does x [] Nothing)
+when_kept P x j = pick (all_kept P x j) (does (accepted P x j) (acks P (accepted P x j) j) None) (does x [] None)
 
 -- what it is answered
 abbrev pub accept_answer : Plan → BoxState → BoxNo → ℕ → Proposal → Answer
 accept_answer P x from j y =
-    or_no (names P j (home_in P x)) not_named
+    or_no (names P j (home_in P x)) NotNamed
     -- recovering: 7 (line 11)
-    (or_no (not (is_recovering x.core.status)) wrong_status
-    (or_no (ballot_fits P x j (home_of P from) y && stamp_fits x j (home_of P from) y) wrong_ballot
-    Done))
+    (or_no (not (is_recovering x.core.status)) WrongStatus
+    (or_no (ballot_fits P x j (home_of P from) y && stamp_fits x j (home_of P from) y) WrongBallot
+    done))
 
 unfoldable pub on_accept : Plan → BoxState → BoxNo → ℕ → Proposal → Out
 on_accept P x from j y = under (accept_answer P x from j y) (when_kept P (kept x j (home_of P from) y) j)

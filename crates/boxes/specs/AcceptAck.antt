@@ -1,5 +1,5 @@
 -- 3 ACCEPT_ACK: a leader counts marks, commits, and hands out what is ready (Figure 4, lines 17-23).
-use Rattle.std.specs.Prelude.{ℕ, Bool, not, ◌&&◌, ◌||◌, List, [], get_or, eqb}
+use Rattle.std.specs.Prelude.{ℕ, Bool, not, ◌&&◌, ◌||◌, List, [], get_or, eqb, None}
 use Rattle.laws.specs.Choice.{pick}
 use Rattle.laws.specs.Fold.{all_below}
 use Rattle.house.specs.Limits.{committed_phase}
@@ -9,14 +9,12 @@ use Rattle.house.specs.declared.BoxNo.{BoxNo}
 use Rattle.house.specs.Plan.{names}
 use Rattle.house.specs.declared.Plan.{Plan}
 use Rattle.house.specs.Marks.{has_mark, marked, quorum_each}
-use Rattle.records.specs.Answers.{not_named, wrong_status, wrong_ballot, already_done, or_no}
-use Rattle.records.specs.declared.Answer.{Answer}
-use Rattle.records.specs.declared.Answer.TheVariants.{Done}
+use Rattle.records.specs.Answers.{or_no, Answer, done}
+use Rattle.records.specs.declared.answers.Refusal.TheVariants.{NotNamed, WrongStatus, WrongBallot, AlreadyDone}
 use Rattle.boxes.specs.Box.{is_leader, own_of, home_in, row_at, kept_ballot, kept_stamp, marks_at, put_row, put_marks}
 use Rattle.boxes.specs.Out.{Out, does, under}
 use Rattle.boxes.specs.Ready.{hand_out, handing}
 use Rattle.boxes.specs.declared.BoxState.{BoxState}
-use Rattle.boxes.specs.declared.Delivery.TheVariants.{Nothing}
 use Rattle.boxes.specs.Accept.{latest_kept}
 
 -- each named district's ballot equals the kept one, and the own one cballot (lines 17-18)
@@ -36,18 +34,18 @@ committed P x j =
     put_row x x.core.clock j (record { phase = committed_phase; local = kept_stamp x j (home_in P x); global = latest_kept P x j P.districts })
 
 unfoldable pub when_marked : Plan → BoxState → ℕ → Out
-when_marked P x j = pick (enough P x j) (handing (hand_out P (committed P x j))) (does x [] Nothing)
+when_marked P x j = pick (enough P x j) (handing (hand_out P (committed P x j))) (does x [] None)
 
 -- what it is answered
 abbrev pub accept_ack_answer : Plan → BoxState → BoxNo → ℕ → List Ballot → Answer
 accept_ack_answer P x from j bs =
-    or_no (names P j (home_in P x)) not_named
+    or_no (names P j (home_in P x)) NotNamed
     -- leader only (line 18)
-    (or_no (is_leader x.core.status) wrong_status
-    (or_no (agree P x j bs) wrong_ballot
+    (or_no (is_leader x.core.status) WrongStatus
+    (or_no (agree P x j bs) WrongBallot
     -- phase 3 or already marked
-    (or_no (not (eqb (row_at x j).phase committed_phase) && not (has_mark (marks_at x j) from)) already_done
-    Done)))
+    (or_no (not (eqb (row_at x j).phase committed_phase) && not (has_mark (marks_at x j) from)) AlreadyDone
+    done)))
 
 unfoldable pub on_accept_ack : Plan → BoxState → BoxNo → ℕ → List Ballot → Out
 on_accept_ack P x from j bs = under (accept_ack_answer P x from j bs) (when_marked P (put_marks x j (marked (marks_at x j) from)) j)

@@ -1,18 +1,16 @@
 -- 1 MULTICAST: a leader proposes a job (Figure 4, lines 3-9).
-use Rattle.std.specs.Prelude.{ℕ, ◌+◌, not, ◌||◌, List, ltb, eqb}
+use Rattle.std.specs.Prelude.{ℕ, ◌+◌, not, ◌||◌, List, ltb, eqb, None}
 use Rattle.laws.specs.Choice.{pick}
 use Rattle.house.specs.Limits.{most_time, start_phase, proposed_phase}
 use Rattle.house.specs.Pairs.{stamp, no_stamp}
 use Rattle.house.specs.Plan.{names}
 use Rattle.house.specs.declared.Plan.{Plan}
-use Rattle.records.specs.Answers.{not_named, wrong_status, at_limit, or_no}
+use Rattle.records.specs.Answers.{or_no, Answer, done}
+use Rattle.records.specs.declared.answers.Refusal.TheVariants.{NotNamed, WrongStatus, AtLimit}
 use Rattle.records.specs.Rec.{Rec, accept}
-use Rattle.records.specs.declared.Answer.{Answer}
-use Rattle.records.specs.declared.Answer.TheVariants.{Done}
 use Rattle.boxes.specs.Box.{is_leader, own_of, home_in, row_at, put_row}
 use Rattle.boxes.specs.Out.{Out, does, to_named, under}
 use Rattle.boxes.specs.declared.BoxState.{BoxState}
-use Rattle.boxes.specs.declared.Delivery.TheVariants.{Nothing}
 
 -- phase 0: clock + 1, new local stamp, phase 1 (lines 5-8)
 unfoldable pub proposed : Plan → BoxState → ℕ → BoxState
@@ -28,12 +26,12 @@ accepts P x j = to_named P j (λ to. accept (own_of x) to j (record { ballot = x
 -- what it is answered
 abbrev pub multicast_answer : Plan → BoxState → ℕ → Answer
 multicast_answer P x j =
-    or_no (names P j (home_in P x)) not_named
+    or_no (names P j (home_in P x)) NotNamed
     -- leader only (line 4)
-    (or_no (is_leader x.core.status) wrong_status
+    (or_no (is_leader x.core.status) WrongStatus
     -- a new stamp needs room on the clock
-    (or_no (not (eqb (row_at x j).phase start_phase) || ltb x.core.clock most_time) at_limit
-    Done))
+    (or_no (not (eqb (row_at x j).phase start_phase) || ltb x.core.clock most_time) AtLimit
+    done))
 
 unfoldable pub on_multicast : Plan → BoxState → ℕ → Out
-on_multicast P x j = under (multicast_answer P x j) (does (proposed P x j) (accepts P (proposed P x j) j) Nothing)
+on_multicast P x j = under (multicast_answer P x j) (does (proposed P x j) (accepts P (proposed P x j) j) None)

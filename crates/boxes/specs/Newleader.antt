@@ -1,19 +1,17 @@
 -- 5 NEWLEADER: a box joins a higher ballot and votes (Figure 4, lines 37-41).
-use Rattle.std.specs.Prelude.{[], ◌∷◌}
+use Rattle.std.specs.Prelude.{[], ◌∷◌, None}
 use Rattle.house.specs.Pairs.{stamp, ballot_lt}
 use Rattle.house.specs.declared.Stamp.{Stamp}
 use Rattle.house.specs.declared.Ballot.{Ballot}
 use Rattle.house.specs.declared.BoxNo.{BoxNo}
 use Rattle.house.specs.declared.Plan.{Plan}
-use Rattle.records.specs.Answers.{wrong_ballot, or_no}
+use Rattle.records.specs.Answers.{or_no, Answer, done}
+use Rattle.records.specs.declared.answers.Refusal.TheVariants.{WrongBallot}
 use Rattle.records.specs.Rec.{Rec, newleader_ack}
-use Rattle.records.specs.declared.Answer.{Answer}
-use Rattle.records.specs.declared.Answer.TheVariants.{Done}
 use Rattle.boxes.specs.Box.{own_of, home_in, no_vote, put_mode, put_vote}
 use Rattle.boxes.specs.Out.{Out, does, under}
 use Rattle.boxes.specs.declared.BoxState.{BoxState}
 use Rattle.boxes.specs.declared.Status.TheVariants.{Recovering}
-use Rattle.boxes.specs.declared.Delivery.TheVariants.{Nothing}
 
 -- recovering, ballot set, vote dropped (lines 39-40)
 unfoldable pub joined : BoxState → Ballot → BoxState
@@ -31,8 +29,8 @@ vote_for P x to b = newleader_ack (own_of x) to (record { ballot = b; cballot = 
 abbrev pub newleader_answer : BoxState → Ballot → Answer
 newleader_answer x b =
     -- any status; ballot above own ballot (line 38)
-    or_no (ballot_lt x.core.ballot b) wrong_ballot
-    Done
+    or_no (ballot_lt x.core.ballot b) WrongBallot
+    done
 
 unfoldable pub on_newleader : Plan → BoxState → BoxNo → Ballot → Out
-on_newleader P x from b = under (newleader_answer x b) (does (joined x b) (vote_for P x from b ∷ []) Nothing)
+on_newleader P x from b = under (newleader_answer x b) (does (joined x b) (vote_for P x from b ∷ []) None)

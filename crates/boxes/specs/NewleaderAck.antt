@@ -1,21 +1,19 @@
 -- 6 NEWLEADER_ACK: votes are counted; a quorum of them is merged (Figure 4, lines 42-56).
-use Rattle.std.specs.Prelude.{ℕ, Bool, true, not, ◌&&◌, List, [], ◌∷◌, leb, ltb, eqb}
+use Rattle.std.specs.Prelude.{ℕ, Bool, true, not, ◌&&◌, List, [], ◌∷◌, leb, ltb, eqb, None}
 use Rattle.laws.specs.Choice.{pick}
 use Rattle.house.specs.Pairs.{same_ballot}
 use Rattle.house.specs.declared.Ballot.{Ballot}
 use Rattle.house.specs.declared.BoxNo.{BoxNo}
 use Rattle.house.specs.Plan.{quorum_of}
 use Rattle.house.specs.declared.Plan.{Plan}
-use Rattle.records.specs.Answers.{wrong_status, wrong_ballot, already_done, or_no}
+use Rattle.records.specs.Answers.{or_no, Answer, done}
+use Rattle.records.specs.declared.answers.Refusal.TheVariants.{WrongStatus, WrongBallot, AlreadyDone}
 use Rattle.records.specs.Rec.{Rec, new_state}
 use Rattle.records.specs.declared.Ballotpaper.{Ballotpaper}
-use Rattle.records.specs.declared.Answer.{Answer}
-use Rattle.records.specs.declared.Answer.TheVariants.{Done}
 use Rattle.boxes.specs.Box.{is_recovering, own_of, put_vote}
 use Rattle.boxes.specs.Out.{Out, does, to_others, under}
 use Rattle.boxes.specs.declared.BoxState.{BoxState}
 use Rattle.boxes.specs.declared.Vote.{Vote}
-use Rattle.boxes.specs.declared.Delivery.TheVariants.{Nothing}
 use Rattle.boxes.specs.Newleader.{clock_stamp}
 use Rattle.boxes.specs.Merge.{merged}
 
@@ -39,8 +37,8 @@ new_states P x = to_others P x (λ to. new_state (own_of x) to (record { ballot 
 unfoldable pub when_voted : Plan → BoxState → Vote → Out
 when_voted P x v =
     pick (leb (quorum_of P) (votes_count x.volatile.vote))
-    (does (merged P x (votes_with x.volatile.vote v)) (new_states P (merged P x (votes_with x.volatile.vote v))) Nothing)
-    (does (put_vote x v) [] Nothing)
+    (does (merged P x (votes_with x.volatile.vote v)) (new_states P (merged P x (votes_with x.volatile.vote v))) None)
+    (does (put_vote x v) [] None)
 
 -- this box has voted already
 unfoldable pub voted_by : BoxState → BoxNo → Bool
@@ -50,11 +48,11 @@ voted_by x from = x.volatile.vote.held && eqb x.volatile.vote.voter.0 from.0
 abbrev pub newleader_ack_answer : BoxState → BoxNo → Ballot → Answer
 newleader_ack_answer x from b =
     -- recovering, ballot equal (line 43)
-    or_no (is_recovering x.core.status) wrong_status
-    (or_no (same_ballot b x.core.ballot) wrong_ballot
+    or_no (is_recovering x.core.status) WrongStatus
+    (or_no (same_ballot b x.core.ballot) WrongBallot
     -- merged already, or the same voter (H)
-    (or_no (not (same_ballot x.core.cballot x.core.ballot) && not (voted_by x from)) already_done
-    Done))
+    (or_no (not (same_ballot x.core.cballot x.core.ballot) && not (voted_by x from)) AlreadyDone
+    done))
 
 unfoldable pub on_newleader_ack : Plan → BoxState → BoxNo → Ballotpaper → Out
 on_newleader_ack P x from y = under (newleader_ack_answer x from y.ballot) (when_voted P x (vote_of from y))

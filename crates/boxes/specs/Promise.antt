@@ -3,7 +3,7 @@
 use Rattle.std.specs.Prelude.{ℕ, Bool, true, false, List, [], ◌≡◌, length}
 use Rattle.laws.specs.Tray.{onto}
 use Rattle.house.specs.declared.Plan.{Plan}
-use Rattle.records.specs.Answers.{Answered}
+use Rattle.records.specs.Answers.{refusal_no, Answered}
 use Rattle.records.specs.Bytes.{encode_all}
 use Rattle.boxes.specs.Out.{Out, refused, does, jobs_in, records_of}
 use Rattle.boxes.specs.declared.BoxState.{BoxState}
@@ -11,21 +11,21 @@ use Rattle.boxes.specs.declared.Outcome.{Outcome}
 
 -- done or refused, and the number of the refusal
 abbrev pub was_done : Out → Bool
-was_done (refused n) = false
+was_done (refused why) = false
 was_done (does x l d) = true
 
 abbrev pub number_of : Out → ℕ
-number_of (refused n) = n
+number_of (refused why) = refusal_no why
 number_of (does x l d) = 0
 
 -- the box after the step: the same one with a refusal
 abbrev pub box_after : BoxState → Out → BoxState
-box_after x (refused n) = x
+box_after x (refused why) = x
 box_after x (does y l d) = y
 
 -- the delivered job or none
 abbrev pub jobs_of : Out → List ℕ
-jobs_of (refused n) = []
+jobs_of (refused why) = []
 jobs_of (does x l d) = jobs_in d
 
 -- an outcome says what the step o from box x comes to

@@ -1,5 +1,5 @@
 -- Ready jobs (Figure 4, lines 21-23 and 66-68): which they are, which is next, and how they are handed out.
-use Rattle.std.specs.Prelude.{ℕ, Bool, true, not, ◌&&◌, ◌||◌, List, [], ◌++◌, set, eqb}
+use Rattle.std.specs.Prelude.{ℕ, Bool, true, not, ◌&&◌, ◌||◌, List, [], ◌++◌, set, eqb, None}
 use Rattle.laws.specs.Choice.{pick}
 use Rattle.laws.specs.Fold.{upto, all_below}
 use Rattle.house.specs.Limits.{no_job, proposed_phase, accepted_phase, committed_phase}
@@ -10,7 +10,6 @@ use Rattle.records.specs.Rec.{Rec, deliver}
 use Rattle.boxes.specs.Box.{own_of, row_at, sent_at, put_sent}
 use Rattle.boxes.specs.Out.{to_home, Out, does}
 use Rattle.boxes.specs.declared.BoxState.{BoxState}
-use Rattle.boxes.specs.declared.Delivery.TheVariants.{Nothing}
 
 -- job j is open: proposed or accepted
 unfoldable pub is_open : BoxState → ℕ → Bool
@@ -62,4 +61,4 @@ hand_out P x = hand_turns P x P.jobs
 
 -- the box after handing out its ready jobs (lines 21-23)
 abbrev pub handing : Handing → Out
-handing h = does h.box h.sent Nothing
+handing h = does h.box h.sent None

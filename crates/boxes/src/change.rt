@@ -4,132 +4,89 @@ ghost use Rattle.std.specs.Prelude.{◌≡◌, ◌<◌};
 ghost use Rattle.house.specs.Limits.{most_districts, most_jobs};
 ghost use Rattle.boxes.specs.Box.{put_mode, put_table, put_row, put_sent, put_listed, put_kept, put_marks, put_vote};
 
-use crate::{BoxState, Core, Listed, Status, Vote};
+use crate::{BoxState, Listed, Status, Vote, look};
 use house::{Ballot, District, Row, Stamp};
 
 // status and the two ballots
-pub fn put_mode(x: BoxState, s: Status, b: Ballot, cb: Ballot) -> BoxState
+pub fn put_mode(mut x: BoxState, s: Status, b: Ballot, cb: Ballot) -> BoxState
     ensures { result ≡ put_mode x s b cb }
 {
-    let c = x.core;
-    let v = x.volatile;
-    let own = c.own;
-    let table = c.table;
-    let sent = c.sent;
-    let list = c.list;
-    let core = Core {
-        own: own,
-        status: s,
-        clock: c.clock,
-        ballot: b,
-        cballot: cb,
-        table: table,
-        sent: sent,
-        count: c.count,
-        list: list,
-    };
-    BoxState {
-        core: core,
-        volatile: v,
-    }
+    x.core.status = s;
+    x.core.ballot = b;
+    x.core.cballot = cb;
+    x
 }
 
 // the clock and the table
-pub fn put_table(x: BoxState, clock: u32, table: [Row; house::JOBS]) -> BoxState
+pub fn put_table(mut x: BoxState, clock: u32, table: [Row; house::JOBS]) -> BoxState
     ensures { result ≡ put_table x clock table }
 {
-    let mut n = x;
-    let mut c = x.core;
-    c.clock = clock;
-    c.table = table;
-    n.core = c;
-    n
+    x.core.clock = clock;
+    x.core.table = table;
+    x
 }
 
 // the clock and the row of a job
-pub fn put_row(x: BoxState, clock: u32, job: usize, row: Row) -> BoxState
+pub fn put_row(mut x: BoxState, clock: u32, job: usize, row: Row) -> BoxState
     requires { job < most_jobs }
     ensures { result ≡ put_row x clock job row }
 {
-    let mut n = x;
-    let mut c = x.core;
-    let mut table = c.table;
-    table[job] = row;
-    c.clock = clock;
-    c.table = table;
-    n.core = c;
-    n
+    x.core.clock = clock;
+    x.core.table[job] = row;
+    x
 }
 
 // the sent flags
-pub fn put_sent(x: BoxState, sent: [bool; house::JOBS]) -> BoxState
+pub fn put_sent(mut x: BoxState, sent: [bool; house::JOBS]) -> BoxState
     ensures { result ≡ put_sent x sent }
 {
-    let mut n = x;
-    let mut c = x.core;
-    c.sent = sent;
-    n.core = c;
-    n
+    x.core.sent = sent;
+    x
 }
 
 // a job more on the delivered list
-pub fn put_listed(x: BoxState, job: u8, s: Stamp) -> BoxState
+pub fn put_listed(mut x: BoxState, job: u8, s: Stamp) -> BoxState
     requires { x.core.count < most_jobs }
     ensures { result ≡ put_listed x job s }
 {
-    let mut n = x;
-    let mut c = x.core;
-    let mut list = c.list;
-    let at = c.count as usize;
-    list[at] = Listed { job: job, stamp: s };
-    c.list = list;
-    c.count = c.count + 1;
-    n.core = c;
-    n
+    x.core.list[x.core.count as usize] = Listed { job, stamp: s };
+    x.core.count += 1;
+    x
 }
 
 // the ACCEPT kept for a job and a district, and the job's marks
-pub fn put_kept(x: BoxState, job: usize, d: District, b: Ballot, s: Stamp, marks: u32) -> BoxState
+#[tactic(auto, unfolding(crate::specs::Box::kept_at))]
+pub fn put_kept(
+    mut x: BoxState,
+    job: usize,
+    d: District,
+    b: Ballot,
+    s: Stamp,
+    marks: u32,
+) -> BoxState
     requires { (job < most_jobs) × (d.0 < most_districts) }
     ensures { result ≡ put_kept x job d b s marks }
 {
-    let at = job * 4 + d.0 as usize;
-    let mut n = x;
-    let mut v = x.volatile;
-    let mut ballots = v.kept_ballots;
-    let mut stamps = v.kept_stamps;
-    let mut all_marks = v.marks;
-    ballots[at] = b;
-    stamps[at] = s;
-    all_marks[job] = marks;
-    v.kept_ballots = ballots;
-    v.kept_stamps = stamps;
-    v.marks = all_marks;
-    n.volatile = v;
-    n
+    let at = look::kept_at(job, d);
+    x.volatile.kept_ballots[at] = b;
+    x.volatile.kept_stamps[at] = s;
+    x.volatile.marks[job] = marks;
+    x
 }
 
 // the marks of a job
-pub fn put_marks(x: BoxState, job: usize, marks: u32) -> BoxState
+pub fn put_marks(mut x: BoxState, job: usize, marks: u32) -> BoxState
     requires { job < most_jobs }
     ensures { result ≡ put_marks x job marks }
 {
-    let mut n = x;
-    let mut v = x.volatile;
-    let mut all_marks = v.marks;
-    all_marks[job] = marks;
-    v.marks = all_marks;
-    n.volatile = v;
-    n
+    x.volatile.marks[job] = marks;
+    x
 }
 
 // the vote kept
-pub fn put_vote(x: BoxState, vote: Vote) -> BoxState
+pub fn put_vote(mut x: BoxState, vote: Vote) -> BoxState
     ensures { result ≡ put_vote x vote }
 {
-    let mut n = x;
-    let mut v = x.volatile;
-    v.vote = vote;
-    n.volatile = v;
-    n
+    x.volatile.vote = vote;
+    x
 }

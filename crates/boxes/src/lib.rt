@@ -13,13 +13,13 @@ pub use change::{
 pub use fresh::{cut_box, fresh_box, no_vote};
 use house::{Ballot, BoxNo, Row, Stamp};
 pub use look::{
-    home_in, in_order, is_leader, is_recovering, kept_ballot, kept_stamp, last_stamp, listed_at,
-    marks_at, on_list, raise, row_at,
+    home_in, is_leader, is_recovering, kept_ballot, kept_stamp, last_stamp, marks_at, on_list,
+    raise, row_at,
 };
 pub use outcomes::{done, refused};
 use records::Answer;
 
-#[derive(Clone, Copy)]
+#[derive(Clone, Copy, Debug, PartialEq, Eq)]
 pub enum Status {
     Follower,
     Leader,
@@ -57,6 +57,7 @@ pub struct Vote {
 }
 
 // what a cut forgets: the ACCEPT kept for each pair of job and district, the marks, the vote
+// Stays: two flat arrays side by side, since document 01 names this form for the 256 pairs of job and district.
 #[derive(Clone, Copy)]
 pub struct Volatile {
     pub kept_ballots: [Ballot; house::PAIRS],
@@ -71,12 +72,6 @@ pub struct BoxState {
     pub volatile: Volatile,
 }
 
-#[derive(Clone, Copy)]
-pub enum Delivery {
-    Nothing,
-    Job(u8),
-}
-
 // done: the new box, the bytes and records written, and the job delivered; refused: the same box, 0 bytes, nothing
 #[derive(Clone, Copy)]
 pub struct Outcome {
@@ -84,5 +79,5 @@ pub struct Outcome {
     pub used: usize,
     pub records: u16,
     pub answer: Answer,
-    pub delivery: Delivery,
+    pub delivery: Option<u8>,
 }

@@ -1,181 +1,122 @@
 // One thing looked up in a box: a row, a flag, marks, a kept ACCEPT, a place of the list.
 // What each function means stands in specs/Box.antt.
-ghost use Rattle.std.specs.Prelude.{◌≡◌};
-ghost use Rattle.boxes.specs.Box.{home_in, row_at, sent_at, listed_at, last_stamp, on_list, kept_ballot, kept_stamp, marks_at, is_leader, is_recovering, raised};
-ghost use Rattle.boxes.specs.Out.{in_order};
+ghost use Rattle.std.specs.Prelude.{◌≡◌, ◌<◌, get_or};
+ghost use Rattle.boxes.specs.Box.{home_in, row_at, no_listed, listed_at, last_stamp, on_list, kept_at, kept_ballot, kept_stamp, marks_at, is_leader, is_recovering, raised};
 
-use crate::{BoxState, Listed, Status};
+use crate::{BoxState, Listed, Status, fresh};
 use house::{Ballot, District, Plan, Row, Stamp};
-use records::Answer;
-
-// the first of the tests 6 to 10 that fails
-pub fn in_order(named: bool, status: bool, ballot: bool, undone: bool, room: bool) -> Answer
-    ensures { result ≡ in_order named status ballot undone room }
-{
-    if named {} else {
-        return Answer::No(records::NOT_NAMED);
-    }
-    if status {} else {
-        return Answer::No(records::WRONG_STATUS);
-    }
-    if ballot {} else {
-        return Answer::No(records::WRONG_BALLOT);
-    }
-    if undone {} else {
-        return Answer::No(records::ALREADY_DONE);
-    }
-    if room {} else {
-        return Answer::No(records::AT_LIMIT);
-    }
-    Answer::Done
-}
 
 pub fn is_leader(s: Status) -> bool
     ensures { result ≡ is_leader s }
 {
-    match s {
-        Status::Follower => false,
-        Status::Leader => true,
-        Status::Recovering => false,
-    }
+    s == Status::Leader
 }
 
 pub fn is_recovering(s: Status) -> bool
     ensures { result ≡ is_recovering s }
 {
-    match s {
-        Status::Follower => false,
-        Status::Leader => false,
-        Status::Recovering => true,
-    }
+    s == Status::Recovering
 }
 
 // the clock raised to a time
+#[tactic(auto, unfolding(crate::specs::Box::raised, laws::specs::Choice::pick))]
 pub fn raise(clock: u32, time: u32) -> u32
     ensures { result ≡ raised clock time }
 {
-    if clock < time {
-        return time;
-    }
-    clock
+    clock.max(time)
 }
 
 // the own district
 pub fn home_in(plan: Plan, x: BoxState) -> District
     ensures { result ≡ home_in plan x }
 {
-    let c = x.core;
-    let own = c.own;
-    house::home_of(plan, own)
+    house::home_of(plan, x.core.own)
 }
 
+#[tactic(auto, using(std::proofs::lemmas::Option::gets), unfolding(crate::specs::Box::row_at))]
 pub fn row_at(x: BoxState, job: u8) -> Row
     ensures { result ≡ row_at x job }
 {
-    if house::MOST_JOBS <= job {
-        return house::no_row();
-    }
-    let c = x.core;
-    let j = job as usize;
-    let table = c.table;
-    table[j]
+    x.core
+        .table
+        .get(job as usize)
+        .copied()
+        .unwrap_or(house::no_row())
 }
 
-fn sent_at(x: BoxState, job: u8) -> bool
-    ensures { result ≡ sent_at x job }
-{
-    if house::MOST_JOBS <= job {
-        return false;
-    }
-    let c = x.core;
-    let j = job as usize;
-    let sent = c.sent;
-    sent[j]
-}
-
+#[tactic(auto, using(std::proofs::lemmas::Option::gets), unfolding(crate::specs::Box::marks_at))]
 pub fn marks_at(x: BoxState, job: u8) -> u32
     ensures { result ≡ marks_at x job }
 {
-    if house::MOST_JOBS <= job {
-        return 0;
-    }
-    let v = x.volatile;
-    let j = job as usize;
-    let marks = v.marks;
-    marks[j]
+    x.volatile
+        .marks
+        .get(job as usize)
+        .copied()
+        .unwrap_or(house::no_marks())
+}
+
+// where the ACCEPT for a job and a district is kept
+#[tactic(auto, unfolding(crate::specs::Box::kept_at))]
+pub fn kept_at(job: usize, d: District) -> usize
+    requires { job < 256 }
+    ensures { result ≡ kept_at job d }
+{
+    job * house::DISTRICTS + d.0 as usize
 }
 
 // the ballot of the ACCEPT kept for a job and a district
+#[tactic(auto, using(std::proofs::lemmas::Option::gets), unfolding(crate::specs::Box::kept_ballot))]
 pub fn kept_ballot(x: BoxState, job: u8, d: District) -> Ballot
     ensures { result ≡ kept_ballot x job d }
 {
-    let at = (job as usize) * 4 + d.0 as usize;
-    if house::PAIRS <= at {
-        return house::no_ballot();
-    }
-    let v = x.volatile;
-    let ballots = v.kept_ballots;
-    ballots[at]
+    x.volatile
+        .kept_ballots
+        .get(kept_at(job as usize, d))
+        .copied()
+        .unwrap_or(house::no_ballot())
 }
 
 // and its stamp
+#[tactic(auto, using(std::proofs::lemmas::Option::gets), unfolding(crate::specs::Box::kept_stamp))]
 pub fn kept_stamp(x: BoxState, job: u8, d: District) -> Stamp
     ensures { result ≡ kept_stamp x job d }
 {
-    let at = (job as usize) * 4 + d.0 as usize;
-    if house::PAIRS <= at {
-        return house::no_stamp();
-    }
-    let v = x.volatile;
-    let stamps = v.kept_stamps;
-    stamps[at]
+    x.volatile
+        .kept_stamps
+        .get(kept_at(job as usize, d))
+        .copied()
+        .unwrap_or(house::no_stamp())
 }
 
-// place i of the delivered list
+// place i of a delivered list, which has job 0 only behind its end
+#[tactic(auto, using(std::proofs::lemmas::Option::gets))]
+fn place(list: &[Listed; house::JOBS], i: u8) -> Listed
+    ensures { result ≡ get_or list.now i no_listed }
+{
+    list.get(i as usize).copied().unwrap_or(fresh::no_listed())
+}
+
+#[tactic(auto, unfolding(crate::specs::Box::listed_at))]
 pub fn listed_at(x: BoxState, i: u8) -> Listed
     ensures { result ≡ listed_at x i }
 {
-    if house::MOST_JOBS <= i {
-        return Listed {
-            job: 0,
-            stamp: house::no_stamp(),
-        };
-    }
-    let c = x.core;
-    let at = i as usize;
-    let list = c.list;
-    list[at]
+    place(&x.core.list, i)
 }
 
 // the last delivered stamp, none if the list is empty
+#[tactic(auto, unfolding(crate::specs::Box::last_stamp, crate::specs::Box::listed_at, laws::specs::Choice::pick))]
 pub fn last_stamp(x: BoxState) -> Stamp
     ensures { result ≡ last_stamp x }
 {
-    let c = x.core;
-    let n = c.count;
-    if n == 0 {
+    if x.core.count == 0 {
         return house::no_stamp();
     }
-    let last = listed_at(x, n - 1);
-    last.stamp
+    place(&x.core.list, x.core.count - 1).stamp
 }
 
 // the job is on the delivered list
 pub fn on_list(x: BoxState, job: u8) -> bool
     ensures { result ≡ on_list x job }
 {
-    let mut found = false;
-    let c = x.core;
-    let n = c.count;
-    let list = c.list;
-    for i in 0..n {
-        // behind the last place there is job 0 only
-        if house::MOST_JOBS <= i {
-            return found | (job == 0);
-        }
-        let at = i as usize;
-        let l = list[at];
-        found = found | (l.job == job);
-    }
-    found
+    (0..x.core.count).any(|i| place(&x.core.list, i).job == job)
 }

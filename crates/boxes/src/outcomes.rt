@@ -1,33 +1,34 @@
 // What a step comes to, as the code answers it: done, or refused.
 // The definition, result_of, stands in specs/Out.antt.
 ghost use Rattle.std.specs.Prelude.{◌≡◌};
+ghost use Rattle.records.specs.Answers.{done};
 ghost use Rattle.boxes.specs.Out.{refusal};
 
-use crate::{BoxState, Delivery, Outcome};
-use records::Answer;
+use crate::{BoxState, Outcome};
+use records::Refusal;
 
 // done: the new box, what was written, and the job delivered
-pub fn done(x: BoxState, used: usize, records: u16, delivery: Delivery) -> Outcome
-    ensures { result ≡ record { state = x; used = used; records = records; answer = Answer.Done; delivery = delivery } }
+pub fn done(state: BoxState, used: usize, records: u16, delivery: Option<u8>) -> Outcome
+    ensures { result ≡ record { state = state; used = used; records = records; answer = done; delivery = delivery } }
 {
     Outcome {
-        state: x,
-        used: used,
-        records: records,
-        answer: Answer::Done,
-        delivery: delivery,
+        state,
+        used,
+        records,
+        answer: Ok(()),
+        delivery,
     }
 }
 
 // refused: the same box, 0 bytes, no delivery
-pub fn refused(x: BoxState, n: u8) -> Outcome
-    ensures { result ≡ refusal x n }
+pub fn refused(state: BoxState, why: Refusal) -> Outcome
+    ensures { result ≡ refusal state why }
 {
     Outcome {
-        state: x,
+        state,
         used: 0,
         records: 0,
-        answer: Answer::No(n),
-        delivery: Delivery::Nothing,
+        answer: Err(why),
+        delivery: None,
     }
 }

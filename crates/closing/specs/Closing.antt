@@ -16,12 +16,7 @@ box_report n p = box_text p (jobs_of (box_in n p)) (shown_of (box_in n p))
 
 -- `job K TIME DISTRICT yes|no`: the global stamp at the lowest box that has it committed, and whether it is finished
 unfoldable pub job_report : Plan → Night → ℕ → List ℕ
-job_report P n j =
-    job_text j
-    (first_below n j (boxes_of P)).found
-    (first_below n j (boxes_of P)).stamp.time
-    (first_below n j (boxes_of P)).stamp.district.0
-    (finished P n j P.districts)
+job_report P n j = job_text j (first_below n j (boxes_of P)) (finished P n j P.districts)
 
 unfoldable pub sound_report : Plan → Night → List ℕ
 sound_report P n = all_for (box_report n) (boxes_of P) ++ all_for (job_report P n) P.jobs

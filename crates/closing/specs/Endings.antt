@@ -1,10 +1,11 @@
 -- What the report says of a night: the jobs of a box's list; the global stamp of a job at the lowest box that has it committed; and
 -- whether a job is finished, which is: on the list of at least one box in each district that it names.
-use Rattle.std.specs.Prelude.{ℕ, ◌+◌, ◌*◌, Bool, true, false, not, ◌||◌, List, [], ◌∷◌, ◌++◌, ltb, eqb}
+use Rattle.std.specs.Prelude.{ℕ, ◌+◌, ◌*◌, Bool, not, Option, Some, None, ◌||◌, List, [], ◌∷◌, ◌++◌, ltb, eqb}
 use Rattle.laws.specs.Choice.{pick}
 use Rattle.laws.specs.Fold.{upto, all_below, some_below}
 use Rattle.house.specs.Limits.{most_jobs, committed_phase}
-use Rattle.house.specs.Pairs.{district, no_stamp}
+use Rattle.house.specs.Pairs.{district}
+use Rattle.house.specs.declared.Stamp.{Stamp}
 use Rattle.house.specs.declared.Row.{Row}
 use Rattle.house.specs.Plan.{size_of, names}
 use Rattle.house.specs.declared.Plan.{Plan}
@@ -12,7 +13,6 @@ use Rattle.boxes.specs.Box.{row_at, listed_at, on_list}
 use Rattle.boxes.specs.declared.BoxState.{BoxState}
 use Rattle.rehearsal.specs.Night.{box_in}
 use Rattle.rehearsal.specs.declared.Night.{Night}
-use Rattle.closing.specs.declared.endings.Committed.{Committed}
 
 -- the first n jobs of a box's list, place by place
 unfoldable pub first_jobs : BoxState → ℕ → List ℕ
@@ -30,14 +30,15 @@ abbrev pub is_committed : Row → Bool
 is_committed r = eqb r.phase committed_phase
 
 -- what was found before, or the stamp of a row that is committed
-unfoldable pub first_of : Committed → Row → Committed
-first_of f r = pick f.found f (pick (is_committed r) (record { found = true; stamp = r.global }) f)
+unfoldable pub first_of : Option Stamp → Row → Option Stamp
+first_of (Some stamp) r = Some stamp
+first_of None r = pick (is_committed r) (Some r.global) None
 
-abbrev pub nowhere : Committed
-nowhere = record { found = false; stamp = no_stamp }
+abbrev pub nowhere : Option Stamp
+nowhere = None
 
--- the lowest of the first n boxes that has the job committed, with its global stamp there
-unfoldable pub first_below : Night → ℕ → ℕ → Committed
+-- the lowest of the first n boxes that has the job committed: its global stamp there
+unfoldable pub first_below : Night → ℕ → ℕ → Option Stamp
 first_below n j k = upto (λ f p. first_of f (row_at (box_in n p) j)) nowhere k
 
 -- on the list of at least one of some boxes, which stand one behind the other

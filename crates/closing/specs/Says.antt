@@ -1,5 +1,5 @@
 -- What the report says, in document 01's words: the lowest box that has a job committed, and a job on the list of a box in each named district.
-use Rattle.std.specs.Prelude.{ℕ, ◌<◌, true, false, ◌≡◌}
+use Rattle.std.specs.Prelude.{ℕ, ◌<◌, true, false, Some, ◌≡◌}
 use Rattle.house.specs.declared.Row.{Row}
 use Rattle.boxes.specs.Box.{row_at}
 use Rattle.rehearsal.specs.Night.{box_in}
@@ -15,5 +15,5 @@ pub record Lowest (n : Night) (j k : ℕ) : Type 0 where
   pub box : ℕ
   pub is_box_lem : box < k
   pub committed : is_committed (row_of n j box) ≡ true
-  pub stamped : (first_below n j k).stamp ≡ (row_of n j box).global
+  pub stamped : first_below n j k ≡ Some (row_of n j box).global
   pub lowest : (q : ℕ) → q < box → is_committed (row_of n j q) ≡ false

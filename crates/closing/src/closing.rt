@@ -29,9 +29,7 @@ fn put_box(p: BoxNo, x: BoxState, t: &mut [u8]) -> usize
     requires { (p.0 < most_boxes) × (box_most ≤ length t.old) }
     ensures { (result ≤ box_most) × (result ≡ length (box_text p.0 (jobs_of x) (shown_of x))) × (t.new ≡ onto (box_text p.0 (jobs_of x) (shown_of x)) t.old) }
 {
-    let list = endings::jobs_of(x);
-    let count = endings::shown_of(x);
-    report::box_line(p, list, count, t)
+    report::box_line(p, endings::jobs_of(x), endings::shown_of(x), t)
 }
 
 // the line of a job, from what the boxes say of it
@@ -39,32 +37,23 @@ fn put_job(plan: Plan, job: u8, end: JobEnd, t: &mut [u8]) -> usize
     requires { (plan_sound plan ≡ true) × (job_most ≤ length t.old) }
     ensures { (result ≤ job_most) × ((night : Night) → Ended night job (boxes_of plan) end → (result ≡ length (job_report plan night job)) × (t.new ≡ onto (job_report plan night job) t.old)) }
 {
-    let c = end.first;
-    let stamp = c.stamp;
     let finished = endings::finished_below(plan, job, end.holders, plan.districts);
-    report::job_line(job, c.found, stamp, finished, t)
+    report::job_line(job, end.first, finished, t)
 }
 
 // the lines of the first n boxes, and what these boxes say of each job
-fn put_boxes(night: Night, n: u8, t: &mut [u8]) -> Boxed
+fn put_boxes(night: Night, n: usize, t: &mut [u8]) -> Boxed
     requires { (n ≤ most_boxes) × (most_boxes * box_most ≤ length t.old) }
     ensures { (result.used ≤ most_boxes * box_most) × (result.used ≡ length (all_for (box_report night) n)) × (t.new ≡ onto (all_for (box_report night) n) t.old) × AllEnded night n result.ends }
 {
-    let boxes = night.boxes;
     let mut ends = endings::no_ends();
     let mut used = 0;
-    for p in 0..n {
-        let at = p as usize;
-        let x = boxes[at];
-        let more = put_box(BoxNo(p), x, &mut t[used..]);
-        used += more;
-        let said = endings::with_box(ends, BoxNo(p), x);
-        ends = said;
+    for (i, x) in night.boxes[..n].iter().enumerate() {
+        let p = BoxNo(i as u8);
+        used += put_box(p, *x, &mut t[used..]);
+        endings::with_box(&mut ends, p, *x);
     }
-    Boxed {
-        ends: ends,
-        used: used,
-    }
+    Boxed { ends, used }
 }
 
 // the lines of the first n jobs, from what the boxes say of each
@@ -73,11 +62,8 @@ fn put_jobs(plan: Plan, ends: [JobEnd; house::JOBS], n: u8, t: &mut [u8]) -> usi
     ensures { (result ≤ most_jobs * job_most) × ((night : Night) → AllEnded night (boxes_of plan) ends → (result ≡ length (all_for (job_report plan night) n)) × (t.new ≡ onto (all_for (job_report plan night) n) t.old)) }
 {
     let mut used = 0;
-    for j in 0..n {
-        let at = j as usize;
-        let end = ends[at];
-        let more = put_job(plan, j, end, &mut t[used..]);
-        used += more;
+    for (j, end) in ends[..n as usize].iter().enumerate() {
+        used += put_job(plan, j as u8, *end, &mut t[used..]);
     }
     used
 }
@@ -87,19 +73,16 @@ fn put_report(plan: Plan, night: Night, t: &mut [u8]) -> usize
     requires { (plan_sound plan ≡ true) × (report_most ≤ length t.old) }
     ensures { (result ≤ report_most) × (result ≡ length (sound_report plan night)) × (t.new ≡ onto (sound_report plan night) t.old) }
 {
-    let n = house::boxes_of(plan) as u8;
-    let boxed = put_boxes(night, n, t);
-    let a = boxed.used;
-    let ends = boxed.ends;
-    a + put_jobs(plan, ends, plan.jobs, &mut t[a..])
+    let boxed = put_boxes(night, house::boxes_of(plan) as usize, t);
+    boxed.used + put_jobs(plan, boxed.ends, plan.jobs, &mut t[boxed.used..])
 }
 
 // the report: nothing for an unsound plan
 pub fn close(plan: Plan, night: Night, t: &mut [u8; crate::REPORT_ROOM]) -> usize
     ensures { Closed plan night t.old result t.new }
 {
-    if house::plan_sound(plan) {
-        return put_report(plan, night, t);
+    if !house::plan_sound(plan) {
+        return 0;
     }
-    0
+    put_report(plan, night, t)
 }

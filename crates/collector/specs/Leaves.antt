@@ -1,6 +1,6 @@
 -- THE THEOREM OF THE FACE: a step from a sound box leaves a sound box; each record that it wrote is read back by the reader as itself and is
 -- addressed as document 01 says; all of them fit (`face`). Said of the promises of the public functions.
-use Rattle.std.specs.Prelude.{ℕ, ◌≤◌, ◌<◌, true, List, ◌≡◌, length, take}
+use Rattle.std.specs.Prelude.{ℕ, ◌≤◌, ◌<◌, true, List, ◌≡◌, length, take, Result, Ok, IfOk}
 use Rattle.laws.specs.Place.{In}
 use Rattle.house.specs.Pairs.{box_no}
 use Rattle.house.specs.declared.BoxNo.{BoxNo}
@@ -11,14 +11,14 @@ use Rattle.records.specs.Rec.{Rec, carried, sender_of, addressee_of}
 use Rattle.records.specs.Bytes.{encode, encode_all}
 use Rattle.records.specs.Rules.{valid}
 use Rattle.records.specs.Outcome.{RecordRead}
-use Rattle.records.specs.declared.Answer.TheVariants.{Done}
+use Rattle.records.specs.declared.answers.Refusal.{Refusal}
 use Rattle.boxes.specs.Sound.{sound}
 use Rattle.boxes.specs.declared.BoxState.{BoxState}
 use Rattle.boxes.specs.declared.Outcome.{Outcome}
 use Rattle.boxes.specs.Lengths.{Lengths}
+use Rattle.sending.specs.declared.Sent as Counts
 use Rattle.stays_sound.specs.Size.{longest_output}
 use Rattle.collector.specs.Promises.{BoxFresh, BytesReceived, JobRetried, BoxStood, BoxCut, JobPosted}
-use Rattle.collector.specs.declared.Posted.{Posted}
 
 -- record m, from this sender, goes where document 01 sends it: to a box, and in kinds 1 to 4 to one of a district that the job names
 -- (kinds 4 to 8 stay in one district by the rules of a valid record)
@@ -36,7 +36,7 @@ pub record Sent (P : Plan) (from : BoxNo) (count used : ℕ) (tray : List ℕ) :
   -- they fit into every tray that is not refused
   pub fit : used ≤ longest_output
   -- each is read back as itself
-  pub read : (m : Rec) → In m records → RecordRead P (encode P (carried m)) (record { answer = Done; rec = carried m })
+  pub read : (m : Rec) → In m records → RecordRead P (encode P (carried m)) (Ok (carried m))
   pub addressed : (m : Rec) → In m records → Addressed P from m
 
 -- the box after a step: sound, with its arrays' lengths, and the same number
@@ -59,7 +59,7 @@ pub record Face (P : Plan) : Type 0 where
   pub stand : (x : BoxState) → sound P x ≡ true → Lengths x → (before : List ℕ) (r : Outcome) (after : List ℕ) → BoxStood P x before r after
       → Leaves P x r after
   pub cut : (x : BoxState) → sound P x ≡ true → Lengths x → (r : Outcome) → BoxCut P x r → Stays P x r.state
-  pub post : plan_sound P ≡ true → (j : ℕ) (before : List ℕ) (p : Posted) (after : List ℕ) → JobPosted P j before p after
-      → Sent P (office_of P) p.records p.used after
+  pub post : plan_sound P ≡ true → (j : ℕ) (before : List ℕ) (p : Result Counts.Sent Refusal) (after : List ℕ) → JobPosted P j before p after
+      → IfOk p (λ s. Sent P (office_of P) s.records s.used after)
   -- and there is a box to begin with
   pub fresh : plan_sound P ≡ true → (p : ℕ) → p < boxes_of P → (x : BoxState) → BoxFresh (box_no p) x → (sound P x ≡ true) × Lengths x

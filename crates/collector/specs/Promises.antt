@@ -1,17 +1,19 @@
 -- THE PROMISES of a box's face, one a function: what it answers, the box after it and every byte of the tray, for every input.
 -- Each contract of src/lib.rt is one of these names; that no second answer fits is said of that very name.
-use Rattle.std.specs.Prelude.{ℕ, List, ◌≡◌, length, eqb}
+use Rattle.std.specs.Prelude.{ℕ, List, ◌≡◌, length, Result, IfOk}
+use Rattle.std.specs.Result.{is_ok}
 use Rattle.laws.specs.Tray.{onto}
 use Rattle.house.specs.declared.BoxNo.{BoxNo}
 use Rattle.house.specs.declared.Plan.{Plan}
 use Rattle.records.specs.Answers.{Answered}
+use Rattle.records.specs.declared.answers.Refusal.{Refusal}
 use Rattle.records.specs.Bytes.{encode_all}
 use Rattle.boxes.specs.Box.{fresh}
 use Rattle.boxes.specs.Step.{receives, post_no, may_post, posted_records, retried, stood, cut_off}
 use Rattle.boxes.specs.Promise.{Says, Stepped}
 use Rattle.boxes.specs.declared.BoxState.{BoxState}
 use Rattle.boxes.specs.declared.Outcome.{Outcome}
-use Rattle.collector.specs.declared.Posted.{Posted}
+use Rattle.sending.specs.declared.Sent.{Sent}
 
 -- fresh_box: follower, clock 0, everything else none
 abbrev pub BoxFresh : BoxNo → BoxState → Type 0
@@ -34,8 +36,8 @@ abbrev pub BoxCut : Plan → BoxState → Outcome → Type 0
 BoxCut P x r = Says P x (cut_off P x) r
 
 -- post_job: the office posts a job; it has no box
-pub record JobPosted (P : Plan) (j : ℕ) (before : List ℕ) (p : Posted) (after : List ℕ) : Type 0 where
-  pub answer : Answered p.answer (eqb (post_no P j (length before)) 0) (post_no P j (length before))
-  pub used : p.used ≡ length (encode_all P (posted_records P j (may_post P j (length before))))
-  pub records : p.records ≡ length (posted_records P j (may_post P j (length before)))
+pub record JobPosted (P : Plan) (j : ℕ) (before : List ℕ) (p : Result Sent Refusal) (after : List ℕ) : Type 0 where
+  pub answer : Answered p (is_ok (may_post P j (length before))) (post_no P j (length before))
+  pub used : IfOk p (λ s. s.used ≡ length (encode_all P (posted_records P j (may_post P j (length before)))))
+  pub records : IfOk p (λ s. s.records ≡ length (posted_records P j (may_post P j (length before))))
   pub tray : after ≡ onto (encode_all P (posted_records P j (may_post P j (length before)))) before

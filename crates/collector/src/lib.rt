@@ -7,20 +7,13 @@ ghost use Rattle.boxes.specs.Sound.{sound};
 ghost use Rattle.boxes.specs.Retry.{retries};
 ghost use Rattle.boxes.specs.Stand.{standing};
 ghost use Rattle.boxes.specs.Step.{may_post, retried, stood};
-ghost use Rattle.collector.specs.Face.{admission, Numbering, Answering};
+ghost use Rattle.collector.specs.Face.{admission, Numbering, Answering, Receiving};
 ghost use Rattle.collector.specs.Promises.{BoxFresh, BytesReceived, JobRetried, BoxStood, BoxCut, JobPosted};
 
-use boxes::{BoxState, Delivery, Outcome};
+use boxes::{BoxState, Outcome};
 use house::{BoxNo, Plan};
-use records::Answer;
-
-// what a post answers: it has no box
-#[derive(Clone, Copy)]
-pub struct Posted {
-    pub answer: Answer,
-    pub used: usize,
-    pub records: u16,
-}
+use records::{Answer, Record, Refusal};
+use sending::Sent;
 
 // follower, clock 0, everything else none
 pub fn fresh_box(own: BoxNo) -> BoxState
@@ -30,46 +23,41 @@ pub fn fresh_box(own: BoxNo) -> BoxState
 }
 
 // 1 for plan and box, 2 for the tray
-fn admit(known: bool, room: usize) -> Answer
-    ensures { result ≡ admission known room }
+fn admit(plan: Plan, x: BoxState, room: usize) -> Answer
+    ensures { result ≡ admission (sound plan x) room }
 {
-    if known {} else {
-        return Answer::No(records::NOT_SOUND);
+    if !soundness::is_sound(plan, x) {
+        return Err(Refusal::NotSound);
     }
-    if house::LEAST_TRAY <= room {} else {
-        return Answer::No(records::SMALL_TRAY);
+    if room < house::LEAST_TRAY {
+        return Err(Refusal::SmallTray);
     }
-    Answer::Done
+    Ok(())
+}
+
+// the answer to bytes: 1, 2, then the box's own, or the record that it will act on
+fn judge_bytes(plan: Plan, x: BoxState, bytes: &[u8], room: usize) -> Result<Record, Refusal>
+    ensures { Receiving plan x bytes.now room result }
+{
+    admit(plan, x, room)?;
+    steps::judge_bytes(plan, x, bytes)
 }
 
 // a record's bytes from outside
 pub fn receive(plan: Plan, x: BoxState, bytes: &[u8], tray: &mut [u8]) -> Outcome
     ensures { BytesReceived plan x bytes.now tray.old result tray.new }
 {
-    let known = soundness::is_sound(plan, x);
-    let first = admit(known, tray.len());
-    if let Answer::No(n) = first {
-        return boxes::refused(x, n);
+    match judge_bytes(plan, x, bytes, tray.len()) {
+        Ok(r) => steps::act(plan, x, r, tray),
+        Err(why) => boxes::refused(x, why),
     }
-    let got = reader::read_bytes(plan, bytes);
-    let read = got.answer;
-    let r = got.rec;
-    let answer = steps::judge_read(plan, x, read, r);
-    if let Answer::No(n) = answer {
-        return boxes::refused(x, n);
-    }
-    steps::act(plan, x, r, tray)
 }
 
 // the answer to a retry: 1, 2, then its own tests
-fn judge_retry(plan: Plan, known: bool, x: BoxState, job: u8, room: usize) -> Answer
-    requires { known ≡ sound plan x }
+fn judge_retry(plan: Plan, x: BoxState, job: u8, room: usize) -> Answer
     ensures { Answering plan x (retried plan x job room) (retries plan x job) room result }
 {
-    let first = admit(known, room);
-    if let Answer::No(n) = first {
-        return Answer::No(n);
-    }
+    admit(plan, x, room)?;
     jobs::decide_retry(plan, x, job)
 }
 
@@ -77,24 +65,18 @@ fn judge_retry(plan: Plan, known: bool, x: BoxState, job: u8, room: usize) -> An
 pub fn retry_job(plan: Plan, x: BoxState, job: u8, tray: &mut [u8]) -> Outcome
     ensures { JobRetried plan x job tray.old result tray.new }
 {
-    let known = soundness::is_sound(plan, x);
-    let answer = judge_retry(plan, known, x, job, tray.len());
-    if let Answer::No(n) = answer {
-        return boxes::refused(x, n);
+    if let Err(why) = judge_retry(plan, x, job, tray.len()) {
+        return boxes::refused(x, why);
     }
     let s = jobs::do_retry(plan, x, job, tray);
-    boxes::done(x, s.used, s.records, Delivery::Nothing)
+    boxes::done(x, s.used, s.records, None)
 }
 
 // the answer to an order to stand: 1, 2, then its own test
-fn judge_stand(plan: Plan, known: bool, x: BoxState, room: usize) -> Answer
-    requires { known ≡ sound plan x }
+fn judge_stand(plan: Plan, x: BoxState, room: usize) -> Answer
     ensures { Answering plan x (stood plan x room) (standing plan x) room result × Numbering x result }
 {
-    let first = admit(known, room);
-    if let Answer::No(n) = first {
-        return Answer::No(n);
-    }
+    admit(plan, x, room)?;
     leaders::decide_stand(x)
 }
 
@@ -102,59 +84,43 @@ fn judge_stand(plan: Plan, known: bool, x: BoxState, room: usize) -> Answer
 pub fn stand_up(plan: Plan, x: BoxState, tray: &mut [u8]) -> Outcome
     ensures { BoxStood plan x tray.old result tray.new }
 {
-    let known = soundness::is_sound(plan, x);
-    let answer = judge_stand(plan, known, x, tray.len());
-    if let Answer::No(n) = answer {
-        return boxes::refused(x, n);
+    if let Err(why) = judge_stand(plan, x, tray.len()) {
+        return boxes::refused(x, why);
     }
     let s = leaders::do_stand(plan, x, tray);
-    boxes::done(x, s.used, s.records, Delivery::Nothing)
+    boxes::done(x, s.used, s.records, None)
 }
 
 // a box loses power: it forgets its volatile part
 pub fn cut_off(plan: Plan, x: BoxState) -> Outcome
     ensures { BoxCut plan x result }
 {
-    if soundness::is_sound(plan, x) {} else {
-        return boxes::refused(x, records::NOT_SOUND);
+    if !soundness::is_sound(plan, x) {
+        return boxes::refused(x, Refusal::NotSound);
     }
-    let y = boxes::cut_box(x);
-    boxes::done(y, 0, 0, Delivery::Nothing)
+    boxes::done(boxes::cut_box(x), 0, 0, None)
 }
 
+#[tactic(auto, unfolding(boxes::specs::Step::may_post))]
 fn may_post(plan: Plan, job: u8, room: usize) -> Answer
     ensures { result ≡ may_post plan job room }
 {
-    if house::plan_sound(plan) {} else {
-        return Answer::No(records::NOT_SOUND);
+    if !house::plan_sound(plan) {
+        return Err(Refusal::NotSound);
     }
-    if house::LEAST_TRAY <= room {} else {
-        return Answer::No(records::SMALL_TRAY);
+    if room < house::LEAST_TRAY {
+        return Err(Refusal::SmallTray);
     }
-    if house::is_job(plan, job) {} else {
-        return Answer::No(records::NOT_NAMED);
+    if !house::is_job(plan, job) {
+        return Err(Refusal::NotNamed);
     }
-    Answer::Done
+    Ok(())
 }
 
-// the office posts a job
-pub fn post_job(plan: Plan, job: u8, tray: &mut [u8]) -> Posted
+// the office posts a job; it has no box
+pub fn post_job(plan: Plan, job: u8, tray: &mut [u8]) -> Result<Sent, Refusal>
     ensures { JobPosted plan job tray.old result tray.new }
 {
-    let answer = may_post(plan, job, tray.len());
-    match answer {
-        Answer::No(n) => Posted {
-            answer: Answer::No(n),
-            used: 0,
-            records: 0,
-        },
-        Answer::Done => {
-            let s = jobs::do_post(plan, job, tray);
-            Posted {
-                answer: Answer::Done,
-                used: s.used,
-                records: s.records,
-            }
-        }
-    }
+    may_post(plan, job, tray.len())?;
+    Ok(jobs::do_post(plan, job, tray))
 }

@@ -8,8 +8,8 @@ mod plans;
 mod sound_plans;
 
 pub use marks::{
-    has_mark, home_boxes, mark, mark_if, marks_in, named_boxes, no_marks, only_boxes, other_boxes,
-    quorum_each,
+    boxes_where, has_mark, home_boxes, mark, mark_if, marks_in, named_boxes, no_marks, only_boxes,
+    other_boxes, quorum_each,
 };
 pub use pairs::{
     ballot_below, ballot_of, is_no_ballot, is_no_stamp, later_stamp, no_ballot, no_row, no_stamp,
@@ -21,7 +21,7 @@ pub use plans::{
 };
 pub use sound_plans::plan_sound;
 
-pub const MOST_DISTRICTS: u8 = 4;
+const MOST_DISTRICTS: u8 = 4;
 
 // boxes of the largest plan
 pub const MOST_BOXES: usize = 12;
@@ -36,6 +36,7 @@ pub const JOBS: usize = MOST_JOBS as usize;
 pub const PAIRS: usize = JOBS * DISTRICTS;
 
 // the phases of a job
+// Stays: numbers and no enum, since `no_row` of specs/Pairs.antt and the phases of specs/Limits.antt, which may not change, are numbers.
 pub const START: u8 = 0;
 
 pub const PROPOSED: u8 = 1;
@@ -54,32 +55,32 @@ pub const MOST_POST: usize = 65_536;
 
 pub const NO_JOB: u8 = 255;
 
-#[derive(Clone, Copy)]
+#[derive(Clone, Copy, Debug, PartialEq, Eq, PartialOrd, Ord)]
 pub struct District(pub u8);
 
-#[derive(Clone, Copy)]
+#[derive(Clone, Copy, Debug, PartialEq, Eq, PartialOrd, Ord)]
 pub struct BoxNo(pub u8);
 
-#[derive(Clone, Copy)]
+#[derive(Clone, Copy, Debug, PartialEq, Eq, PartialOrd, Ord)]
 pub struct Stamp {
     pub time: u32,
     pub district: District,
 }
 
-#[derive(Clone, Copy)]
+#[derive(Clone, Copy, Debug, PartialEq, Eq, PartialOrd, Ord)]
 pub struct Ballot {
     pub number: u16,
     pub owner: BoxNo,
 }
 
-#[derive(Clone, Copy)]
+#[derive(Clone, Copy, Debug, PartialEq, Eq)]
 pub struct Row {
     pub phase: u8,
     pub local: Stamp,
     pub global: Stamp,
 }
 
-#[derive(Clone, Copy)]
+#[derive(Clone, Copy, Debug, PartialEq, Eq)]
 pub struct Plan {
     pub districts: u8,
     pub jobs: u8,
@@ -87,7 +88,7 @@ pub struct Plan {
 }
 
 // an order, with the numbers that were typed
-#[derive(Clone, Copy)]
+#[derive(Clone, Copy, Debug, PartialEq, Eq)]
 pub enum Order {
     Post(u32),
     Stand(u32),

@@ -6,38 +6,34 @@ ghost use Rattle.house.specs.Plan.{mask_sound, counts_sound, masks_sound, plan_s
 
 use crate::Plan;
 
+#[tactic(auto, unfolding(crate::specs::Plan::mask_sound))]
 fn mask_sound(districts: u8, mask: u8) -> bool
     requires { districts ≤ most_districts }
     ensures { result ≡ mask_sound districts mask }
 {
-    (1 <= mask) & (mask < (1u8 << districts))
+    (1..(1u8 << districts)).contains(&mask)
 }
 
+#[tactic(auto, unfolding(crate::specs::Plan::counts_sound))]
 fn counts_sound(plan: Plan) -> bool
     ensures { result ≡ counts_sound plan }
 {
-    ((1 <= plan.districts) & (plan.districts <= crate::MOST_DISTRICTS))
-        & ((1 <= plan.jobs) & (plan.jobs <= crate::MOST_JOBS))
+    (1..=crate::MOST_DISTRICTS).contains(&plan.districts)
+        && (1..=crate::MOST_JOBS).contains(&plan.jobs)
 }
 
 fn masks_sound(plan: Plan, n: u8) -> bool
     requires { (n ≤ most_jobs) × (plan.districts ≤ most_districts) }
     ensures { result ≡ masks_sound plan n }
 {
-    let masks = plan.masks;
-    let mut ok = true;
-    for j in 0..n {
-        let at = j as usize;
-        ok = ok & mask_sound(plan.districts, masks[at]);
-    }
-    ok
+    plan.masks[..n as usize]
+        .iter()
+        .all(|mask| mask_sound(plan.districts, *mask))
 }
 
+#[tactic(auto, unfolding(crate::specs::Plan::plan_sound, crate::specs::Plan::counts_sound))]
 pub fn plan_sound(plan: Plan) -> bool
     ensures { result ≡ plan_sound plan }
 {
-    if counts_sound(plan) {} else {
-        return false;
-    }
-    masks_sound(plan, plan.jobs)
+    counts_sound(plan) && masks_sound(plan, plan.jobs)
 }

@@ -1,6 +1,6 @@
 -- DEMAND 3, in full: what is to hold of every run of a plan, from fresh boxes, under any orders, at every moment. Its words stand in Words.
 -- The post has no limit here. Orders are carried late, often or never, in any order; leaders stand against each other; cuts forget.
-use Rattle.std.specs.Prelude.{ℕ, ◌<◌, true, List, ◌++◌, ◌≡◌}
+use Rattle.std.specs.Prelude.{ℕ, ◌<◌, true, List, ◌++◌, ◌≡◌, Option}
 use Rattle.house.specs.Pairs.{stamp_lt}
 use Rattle.house.specs.declared.Stamp.{Stamp}
 use Rattle.house.specs.declared.Ballot.{Ballot}
@@ -12,7 +12,6 @@ use Rattle.records.specs.Rec.{Rec}
 use Rattle.boxes.specs.Box.{listed_at}
 use Rattle.boxes.specs.Out.{does}
 use Rattle.boxes.specs.declared.BoxState.{BoxState}
-use Rattle.boxes.specs.declared.Delivery.{Delivery}
 use Rattle.world.specs.World.{box_at, given, whose}
 use Rattle.in_order.specs.Words.{after, Shows, FinalStamp, Rises, Once, SameOrder, ListBegins, Delivered, HandsOut, HandedBefore}
 
@@ -43,7 +42,7 @@ ListGrows P = (os later : List Order) (p : ℕ) → p < boxes_of P → ListBegin
 
 -- and what an order delivers is what the list of its box gets
 abbrev pub ListDelivers : Plan → Type 0
-ListDelivers P = (os : List Order) (o : Order) (y : BoxState) (l : List Rec) (d : Delivery) → given P (after P os) o ≡ does y l d
+ListDelivers P = (os : List Order) (o : Order) (y : BoxState) (l : List Rec) (d : Option ℕ) → given P (after P os) o ≡ does y l d
     → Delivered (box_at (after P os) (whose (after P os) o)) y d
 
 -- (3) when a leader p hands out job m with stamp s, to whichever box first, then every job k that names p's district and that ever gets a

@@ -1,6 +1,6 @@
 -- The words of demand 3: a run, a final stamp, a delivered list, a job handed out (document 01, 'Orders', last paragraph).
 -- Plain definitions over the steps of demand 2; nothing is proved here.
-use Rattle.std.specs.Prelude.{ℕ, ◌+◌, ◌≤◌, ◌<◌, true, List, ◌++◌, ◌≡◌, set}
+use Rattle.std.specs.Prelude.{ℕ, ◌+◌, ◌≤◌, ◌<◌, true, List, ◌++◌, ◌≡◌, set, None, Option, Some}
 use Rattle.laws.specs.Place.{At, In}
 use Rattle.house.specs.Limits.{committed_phase}
 use Rattle.house.specs.Pairs.{stamp_lt}
@@ -14,8 +14,6 @@ use Rattle.records.specs.declared.Handout.{Handout}
 use Rattle.house.specs.declared.Order.{Order}
 use Rattle.boxes.specs.Box.{row_at, listed_at}
 use Rattle.boxes.specs.declared.BoxState.{BoxState}
-use Rattle.boxes.specs.declared.Delivery.{Delivery}
-use Rattle.boxes.specs.declared.Delivery.TheVariants.{Nothing, Job}
 use Rattle.world.specs.World.{World, box_at, new, run}
 
 -- the world after a list of orders, from fresh boxes and an empty post
@@ -62,9 +60,9 @@ pub record SameList (x y : BoxState) : Type 0 where
   pub list : y.core.list ≡ x.core.list
 
 -- what a step from x to y delivers: nothing, and the list is as it was; or job j, which is added to the list with a stamp
-pub data Delivered (x y : BoxState) (d : Delivery) : Type 0 where
-  none : d ≡ Nothing → SameList x y → Delivered x y d
-  one : (j : ℕ) (s : Stamp) → d ≡ Job j → y.core.count ≡ x.core.count + 1
+pub data Delivered (x y : BoxState) (d : Option ℕ) : Type 0 where
+  none : d ≡ None → SameList x y → Delivered x y d
+  one : (j : ℕ) (s : Stamp) → d ≡ Some j → y.core.count ≡ x.core.count + 1
       → y.core.list ≡ set x.core.list x.core.count (record { job = j; stamp = s }) → Delivered x y d
 
 -- ---- handed out

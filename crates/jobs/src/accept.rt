@@ -9,64 +9,62 @@ ghost use Rattle.boxes.specs.Box.{kept_stamp};
 ghost use Rattle.house.specs.Pairs.{later_stamp};
 ghost use Rattle.house.specs.Plan.{boxes_of, names, home_of, plan_sound};
 ghost use Rattle.laws.specs.Tray.{onto};
+ghost use Rattle.records.specs.Answers.{done};
 ghost use Rattle.records.specs.Bytes.{encode_all};
 ghost use Rattle.boxes.specs.Out.{result_of, records_of};
 
-use boxes::{BoxState, Delivery, Outcome};
+use boxes::{BoxState, Outcome};
 use house::{BoxNo, District, Plan, Row, Stamp};
-use records::{Answer, Proposal};
+use records::{Answer, Proposal, Refusal};
 
 // 2 ACCEPT: the own district's ballot must be cballot, another's not below the kept one
+#[tactic(auto, unfolding(boxes::specs::Accept::ballot_fits, laws::specs::Choice::pick))]
 fn ballot_fits(plan: Plan, x: BoxState, job: u8, d: District, y: Proposal) -> bool
     ensures { result ≡ ballot_fits plan x job d y }
 {
-    let home = boxes::home_in(plan, x);
-    let b = y.ballot;
-    if d.0 == home.0 {
-        let c = x.core;
-        let cb = c.cballot;
-        return house::same_ballot(b, cb);
+    if d.0 == boxes::home_in(plan, x).0 {
+        return house::same_ballot(y.ballot, x.core.cballot);
     }
-    let old = boxes::kept_ballot(x, job, d);
-    !house::ballot_below(b, old)
+    !house::ballot_below(y.ballot, boxes::kept_ballot(x, job, d))
 }
 
 // an equal ballot with another stamp is refused
+#[tactic(auto, unfolding(boxes::specs::Accept::stamp_fits))]
 fn stamp_fits(x: BoxState, job: u8, d: District, y: Proposal) -> bool
     ensures { result ≡ stamp_fits x job d y }
 {
-    let b = y.ballot;
-    let s = y.stamp;
-    let old = boxes::kept_ballot(x, job, d);
-    let stamp = boxes::kept_stamp(x, job, d);
-    !house::same_ballot(b, old) | house::same_stamp(s, stamp)
+    !house::same_ballot(y.ballot, boxes::kept_ballot(x, job, d))
+        | house::same_stamp(y.stamp, boxes::kept_stamp(x, job, d))
 }
 
 // the same ACCEPT is kept already
+#[tactic(auto, unfolding(boxes::specs::Accept::same_kept))]
 fn same_kept(x: BoxState, job: u8, d: District, y: Proposal) -> bool
     ensures { result ≡ same_kept x job d y }
 {
-    let b = y.ballot;
-    let s = y.stamp;
-    let old = boxes::kept_ballot(x, job, d);
-    let stamp = boxes::kept_stamp(x, job, d);
-    house::same_ballot(b, old) & house::same_stamp(s, stamp)
+    house::same_ballot(y.ballot, boxes::kept_ballot(x, job, d))
+        & house::same_stamp(y.stamp, boxes::kept_stamp(x, job, d))
 }
 
+#[tactic(auto, unfolding(boxes::specs::Accept::accept_answer))]
 pub fn decide_accept(plan: Plan, x: BoxState, from: BoxNo, job: u8, y: Proposal) -> Answer
     ensures { result ≡ accept_answer plan x from job y }
 {
-    let c = x.core;
-    let status = c.status;
-    let home = boxes::home_in(plan, x);
-    let named = house::named(plan, job, home);
-    let recovers = boxes::is_recovering(status);
+    if !house::named(plan, job, boxes::home_in(plan, x)) {
+        return Err(Refusal::NotNamed);
+    }
+    if boxes::is_recovering(x.core.status) {
+        return Err(Refusal::WrongStatus);
+    }
     let d = house::home_of(plan, from);
-    let fits = ballot_fits(plan, x, job, d, y) & stamp_fits(x, job, d, y);
-    boxes::in_order(named, !recovers, fits, true, true)
+    if !(ballot_fits(plan, x, job, d, y) & stamp_fits(x, job, d, y)) {
+        return Err(Refusal::WrongBallot);
+    }
+    Ok(())
 }
 
 // a change clears the marks
+#[tactic(auto, unfolding(laws::specs::Choice::pick))]
 fn marks_after(same: bool, marks: u32) -> u32
     ensures { result ≡ pick same marks no_marks }
 {
@@ -76,17 +74,13 @@ fn marks_after(same: bool, marks: u32) -> u32
     house::no_marks()
 }
 
+#[tactic(auto, unfolding(boxes::specs::Accept::kept))]
 fn keep(x: BoxState, job: u8, d: District, y: Proposal) -> BoxState
     requires { (job < most_jobs) × (d.0 < most_districts) }
     ensures { result ≡ kept x job d y }
 {
-    let same = same_kept(x, job, d, y);
-    let old = boxes::marks_at(x, job);
-    let new = marks_after(same, old);
-    let j = job as usize;
-    let b = y.ballot;
-    let s = y.stamp;
-    boxes::put_kept(x, j, d, b, s, new)
+    let marks = marks_after(same_kept(x, job, d, y), boxes::marks_at(x, job));
+    boxes::put_kept(x, job as usize, d, y.ballot, y.stamp, marks)
 }
 
 // an ACCEPT is kept for each of the first n districts that the job names
@@ -102,23 +96,21 @@ fn kept_below(plan: Plan, x: BoxState, job: u8, n: u8) -> bool
 }
 
 // all named districts are kept, and the own one has cballot
+#[tactic(auto, unfolding(boxes::specs::Accept::all_kept))]
 fn all_kept(plan: Plan, x: BoxState, job: u8) -> bool
     ensures { result ≡ all_kept plan x job }
 {
-    let c = x.core;
-    let cb = c.cballot;
-    let home = boxes::home_in(plan, x);
-    let own = boxes::kept_ballot(x, job, home);
-    kept_below(plan, x, job, plan.districts) & house::same_ballot(own, cb)
+    let own = boxes::kept_ballot(x, job, boxes::home_in(plan, x));
+    kept_below(plan, x, job, plan.districts) & house::same_ballot(own, x.core.cballot)
 }
 
 // the larger of a stamp and the one kept for a district, if that is named
+#[tactic(auto, unfolding(laws::specs::Choice::pick))]
 fn later_kept(plan: Plan, x: BoxState, job: u8, s: Stamp, d: District) -> Stamp
     ensures { result ≡ pick (names plan job d) (later_stamp s (kept_stamp x job d)) s }
 {
     if house::named(plan, job, d) {
-        let t = boxes::kept_stamp(x, job, d);
-        return house::later_stamp(s, t);
+        return house::later_stamp(s, boxes::kept_stamp(x, job, d));
     }
     s
 }
@@ -135,33 +127,30 @@ pub fn latest_kept(plan: Plan, x: BoxState, job: u8, n: u8) -> Stamp
 }
 
 // phase 0 or 1 becomes 2; unless phase 3, the own stamp is stored (H)
+#[tactic(auto, unfolding(boxes::specs::Accept::accepted_row, laws::specs::Choice::pick))]
 fn row_accepted(row: Row, s: Stamp) -> Row
     ensures { result ≡ accepted_row row s }
 {
     if row.phase == house::COMMITTED {
         return row;
     }
-    let none = house::no_stamp();
     Row {
         phase: house::ACCEPTED,
         local: s,
-        global: none,
+        global: house::no_stamp(),
     }
 }
 
+#[tactic(auto, unfolding(boxes::specs::Accept::accepted))]
 fn accept(plan: Plan, x: BoxState, job: u8) -> BoxState
     requires { job < most_jobs }
     ensures { result ≡ accepted plan x job }
 {
-    let c = x.core;
-    let home = boxes::home_in(plan, x);
-    let own = boxes::kept_stamp(x, job, home);
-    let row = boxes::row_at(x, job);
-    let new = row_accepted(row, own);
+    let own = boxes::kept_stamp(x, job, boxes::home_in(plan, x));
+    let new = row_accepted(boxes::row_at(x, job), own);
     let latest = latest_kept(plan, x, job, plan.districts);
-    let clock = boxes::raise(c.clock, latest.time);
-    let j = job as usize;
-    boxes::put_row(x, clock, j, new)
+    let clock = boxes::raise(x.core.clock, latest.time);
+    boxes::put_row(x, clock, job as usize, new)
 }
 
 // the boxes of the ballots kept for the named districts
@@ -189,13 +178,11 @@ fn when_kept(plan: Plan, x: BoxState, job: u8, tray: &mut [u8]) -> Outcome
 {
     if all_kept(plan, x, job) {
         let y = accept(plan, x, job);
-        let c = y.core;
-        let own = c.own;
-        let r = sending::ack_record(plan, y, own, job);
+        let r = sending::ack_record(plan, y, y.core.own, job);
         let meant = kept_leaders(plan, y, job);
         return sending::done_sending(plan, y, r, meant, tray);
     }
-    boxes::done(x, 0, 0, Delivery::Nothing)
+    boxes::done(x, 0, 0, None)
 }
 
 // 2 ACCEPT
@@ -207,10 +194,9 @@ pub fn do_accept(
     y: Proposal,
     tray: &mut [u8],
 ) -> Outcome
-    requires { (plan_sound plan ≡ true) × (job < most_jobs) × ((home_of plan from).0 < most_districts) × (length (encode_all plan (records_of (on_accept plan x from job y))) ≤ length tray.old) × (accept_answer plan x from job y ≡ Answer.Done) }
+    requires { (plan_sound plan ≡ true) × (job < most_jobs) × ((home_of plan from).0 < most_districts) × (length (encode_all plan (records_of (on_accept plan x from job y))) ≤ length tray.old) × (accept_answer plan x from job y ≡ done) }
     ensures { (result ≡ result_of plan x (on_accept plan x from job y)) × (tray.new ≡ onto (encode_all plan (records_of (on_accept plan x from job y))) tray.old) }
 {
-    let d = house::home_of(plan, from);
-    let z = keep(x, job, d, y);
+    let z = keep(x, job, house::home_of(plan, from), y);
     when_kept(plan, z, job, tray)
 }

@@ -7,13 +7,14 @@ ghost use Rattle.boxes.specs.Box.{marks_at, put_marks};
 ghost use Rattle.boxes.specs.AcceptAck.{agree_below, agree, enough, committed, when_marked, on_accept_ack, accept_ack_answer};
 ghost use Rattle.laws.specs.Tray.{onto};
 ghost use Rattle.house.specs.Plan.{plan_sound};
+ghost use Rattle.records.specs.Answers.{done};
 ghost use Rattle.records.specs.Bytes.{encode_all};
 ghost use Rattle.boxes.specs.Out.{result_of, records_of};
 
 use crate::accept;
-use boxes::{BoxState, Delivery, Outcome};
+use boxes::{BoxState, Outcome};
 use house::{Ballot, BoxNo, District, Plan, Row};
-use records::Answer;
+use records::{Answer, Refusal};
 
 // 3 ACCEPT_ACK: the ballot of each of the first n districts that the job names equals the kept one
 fn agree_below(plan: Plan, x: BoxState, job: u8, ballots: [Ballot; house::DISTRICTS], n: u8) -> bool
@@ -29,16 +30,15 @@ fn agree_below(plan: Plan, x: BoxState, job: u8, ballots: [Ballot; house::DISTRI
 }
 
 // and the own one equals cballot
+#[tactic(auto, unfolding(boxes::specs::AcceptAck::agree))]
 fn all_agree(plan: Plan, x: BoxState, job: u8, ballots: [Ballot; house::DISTRICTS]) -> bool
     ensures { result ≡ agree plan x job ballots }
 {
-    let c = x.core;
-    let cb = c.cballot;
-    let home = boxes::home_in(plan, x);
-    let own = rules::ballot_at(ballots, home);
-    agree_below(plan, x, job, ballots, plan.districts) & house::same_ballot(own, cb)
+    let own = rules::ballot_at(ballots, boxes::home_in(plan, x));
+    agree_below(plan, x, job, ballots, plan.districts) & house::same_ballot(own, x.core.cballot)
 }
 
+#[tactic(auto, unfolding(boxes::specs::AcceptAck::accept_ack_answer))]
 pub fn decide_accept_ack(
     plan: Plan,
     x: BoxState,
@@ -48,54 +48,51 @@ pub fn decide_accept_ack(
 ) -> Answer
     ensures { result ≡ accept_ack_answer plan x from job ballots }
 {
-    let c = x.core;
-    let status = c.status;
-    let home = boxes::home_in(plan, x);
-    let named = house::named(plan, job, home);
-    let leads = boxes::is_leader(status);
-    let agreed = all_agree(plan, x, job, ballots);
-    let row = boxes::row_at(x, job);
-    let old = boxes::marks_at(x, job);
-    let undone = !(row.phase == house::COMMITTED) & !house::has_mark(old, from);
-    boxes::in_order(named, leads, agreed, undone, true)
+    if !house::named(plan, job, boxes::home_in(plan, x)) {
+        return Err(Refusal::NotNamed);
+    }
+    if !boxes::is_leader(x.core.status) {
+        return Err(Refusal::WrongStatus);
+    }
+    if !all_agree(plan, x, job, ballots) {
+        return Err(Refusal::WrongBallot);
+    }
+    let is_committed = boxes::row_at(x, job).phase == house::COMMITTED;
+    if is_committed || house::has_mark(boxes::marks_at(x, job), from) {
+        return Err(Refusal::AlreadyDone);
+    }
+    Ok(())
 }
 
 fn mark_by(x: BoxState, job: u8, from: BoxNo) -> BoxState
     requires { job < most_jobs }
     ensures { result ≡ put_marks x job (marked (marks_at x job) from) }
 {
-    let old = boxes::marks_at(x, job);
-    let new = house::mark(old, from);
-    let j = job as usize;
-    boxes::put_marks(x, j, new)
+    let marks = house::mark(boxes::marks_at(x, job), from);
+    boxes::put_marks(x, job as usize, marks)
 }
 
 // the own mark and a quorum in every named district
+#[tactic(auto, unfolding(boxes::specs::AcceptAck::enough))]
 fn is_enough(plan: Plan, x: BoxState, job: u8) -> bool
     ensures { result ≡ enough plan x job }
 {
-    let c = x.core;
-    let own = c.own;
-    let all = boxes::marks_at(x, job);
-    house::has_mark(all, own) & house::quorum_each(plan, job, all)
+    let marks = boxes::marks_at(x, job);
+    house::has_mark(marks, x.core.own) & house::quorum_each(plan, job, marks)
 }
 
 // phase 3, global stamp the largest kept, local the own kept (H)
+#[tactic(auto, unfolding(boxes::specs::AcceptAck::committed))]
 fn commit(plan: Plan, x: BoxState, job: u8) -> BoxState
     requires { job < most_jobs }
     ensures { result ≡ committed plan x job }
 {
-    let c = x.core;
-    let home = boxes::home_in(plan, x);
-    let local = boxes::kept_stamp(x, job, home);
-    let global = accept::latest_kept(plan, x, job, plan.districts);
     let new = Row {
         phase: house::COMMITTED,
-        local: local,
-        global: global,
+        local: boxes::kept_stamp(x, job, boxes::home_in(plan, x)),
+        global: accept::latest_kept(plan, x, job, plan.districts),
     };
-    let j = job as usize;
-    boxes::put_row(x, c.clock, j, new)
+    boxes::put_row(x, x.core.clock, job as usize, new)
 }
 
 // 3 ACCEPT_ACK, once it is marked
@@ -105,13 +102,11 @@ fn when_marked(plan: Plan, x: BoxState, job: u8, tray: &mut [u8]) -> Outcome
 {
     if is_enough(plan, x, job) {
         let y = commit(plan, x, job);
-        let c = y.core;
-        let h = sending::hand_out(tray, plan, c);
-        let sent = h.sent;
-        let z = boxes::put_sent(y, sent);
-        return boxes::done(z, h.used, h.records, Delivery::Nothing);
+        let h = sending::hand_out(tray, plan, y.core);
+        let z = boxes::put_sent(y, h.sent);
+        return boxes::done(z, h.used, h.records, None);
     }
-    boxes::done(x, 0, 0, Delivery::Nothing)
+    boxes::done(x, 0, 0, None)
 }
 
 // 3 ACCEPT_ACK
@@ -123,7 +118,7 @@ pub fn do_accept_ack(
     ballots: [Ballot; house::DISTRICTS],
     tray: &mut [u8],
 ) -> Outcome
-    requires { (plan_sound plan ≡ true) × (job < most_jobs) × (length (encode_all plan (records_of (on_accept_ack plan x from job ballots))) ≤ length tray.old) × (accept_ack_answer plan x from job ballots ≡ Answer.Done) }
+    requires { (plan_sound plan ≡ true) × (job < most_jobs) × (length (encode_all plan (records_of (on_accept_ack plan x from job ballots))) ≤ length tray.old) × (accept_ack_answer plan x from job ballots ≡ done) }
     ensures { (result ≡ result_of plan x (on_accept_ack plan x from job ballots)) × (tray.new ≡ onto (encode_all plan (records_of (on_accept_ack plan x from job ballots))) tray.old) }
 {
     let y = mark_by(x, job, from);

@@ -3,54 +3,54 @@
 ghost use Rattle.std.specs.Prelude.{◌≡◌, ◌<◌};
 ghost use Rattle.house.specs.Limits.{most_jobs};
 ghost use Rattle.boxes.specs.Deliver.{delivered, on_deliver, deliver_answer};
+ghost use Rattle.records.specs.Answers.{done};
 ghost use Rattle.boxes.specs.Out.{result_of};
 
-use boxes::{BoxState, Delivery, Outcome};
+use boxes::{BoxState, Outcome};
 use house::{Plan, Row};
-use records::{Answer, Handout};
+use records::{Answer, Handout, Refusal};
 
 // 4 DELIVER: not recovering; ballot is cballot; stamp above the last delivered and job not on the list
+#[tactic(auto, unfolding(boxes::specs::Deliver::deliver_answer))]
 pub fn decide_deliver(plan: Plan, x: BoxState, job: u8, y: Handout) -> Answer
     ensures { result ≡ deliver_answer plan x job y }
 {
-    let c = x.core;
-    let status = c.status;
-    let cb = c.cballot;
-    let home = boxes::home_in(plan, x);
-    let named = house::named(plan, job, home);
-    let recovers = boxes::is_recovering(status);
-    let b = y.ballot;
-    let global = y.global;
-    let same = house::same_ballot(b, cb);
-    let last = boxes::last_stamp(x);
-    let undone = house::stamp_below(last, global) & !boxes::on_list(x, job);
-    boxes::in_order(named, !recovers, same, undone, true)
+    if !house::named(plan, job, boxes::home_in(plan, x)) {
+        return Err(Refusal::NotNamed);
+    }
+    if boxes::is_recovering(x.core.status) {
+        return Err(Refusal::WrongStatus);
+    }
+    if !house::same_ballot(y.ballot, x.core.cballot) {
+        return Err(Refusal::WrongBallot);
+    }
+    if !house::stamp_below(boxes::last_stamp(x), y.global) || boxes::on_list(x, job) {
+        return Err(Refusal::AlreadyDone);
+    }
+    Ok(())
 }
 
 // phase 3, both stamps, clock raised, job added to the list
+#[tactic(auto, unfolding(boxes::specs::Deliver::delivered))]
 fn deliver(x: BoxState, job: u8, y: Handout) -> BoxState
     requires { (job < most_jobs) × (x.core.count < most_jobs) }
     ensures { result ≡ delivered x job y }
 {
-    let c = x.core;
-    let local = y.local;
-    let global = y.global;
-    let clock = boxes::raise(c.clock, global.time);
+    let clock = boxes::raise(x.core.clock, y.global.time);
     let new = Row {
         phase: house::COMMITTED,
-        local: local,
-        global: global,
+        local: y.local,
+        global: y.global,
     };
-    let j = job as usize;
-    let z = boxes::put_row(x, clock, j, new);
-    boxes::put_listed(z, job, global)
+    let z = boxes::put_row(x, clock, job as usize, new);
+    boxes::put_listed(z, job, y.global)
 }
 
 // 4 DELIVER
 pub fn do_deliver(plan: Plan, x: BoxState, job: u8, y: Handout) -> Outcome
-    requires { (job < most_jobs) × (x.core.count < most_jobs) × (deliver_answer plan x job y ≡ Answer.Done) }
+    requires { (job < most_jobs) × (x.core.count < most_jobs) × (deliver_answer plan x job y ≡ done) }
     ensures { result ≡ result_of plan x (on_deliver plan x job y) }
 {
     let z = deliver(x, job, y);
-    boxes::done(z, 0, 0, Delivery::Job(job))
+    boxes::done(z, 0, 0, Some(job))
 }

@@ -6,61 +6,60 @@ ghost use Rattle.boxes.specs.Multicast.{proposed, on_multicast, multicast_answer
 ghost use Rattle.laws.specs.Tray.{onto};
 ghost use Rattle.house.specs.Plan.{plan_sound};
 ghost use Rattle.records.specs.Bytes.{encode_all};
+ghost use Rattle.records.specs.Answers.{done};
 ghost use Rattle.boxes.specs.Out.{result_of, records_of};
 
 use boxes::{BoxState, Outcome};
 use house::{Plan, Row, Stamp};
-use records::Answer;
+use records::{Answer, Refusal};
 
 // 1 MULTICAST: leader only; a new stamp needs room on the clock
+#[tactic(auto, unfolding(boxes::specs::Multicast::multicast_answer))]
 pub fn decide_multicast(plan: Plan, x: BoxState, job: u8) -> Answer
     ensures { result ≡ multicast_answer plan x job }
 {
-    let c = x.core;
-    let status = c.status;
-    let home = boxes::home_in(plan, x);
-    let named = house::named(plan, job, home);
-    let leads = boxes::is_leader(status);
-    let row = boxes::row_at(x, job);
-    let room = !(row.phase == house::START) | (c.clock < house::MOST_TIME);
-    boxes::in_order(named, leads, true, true, room)
+    if !house::named(plan, job, boxes::home_in(plan, x)) {
+        return Err(Refusal::NotNamed);
+    }
+    if !boxes::is_leader(x.core.status) {
+        return Err(Refusal::WrongStatus);
+    }
+    let is_new = boxes::row_at(x, job).phase == house::START;
+    if is_new && house::MOST_TIME <= x.core.clock {
+        return Err(Refusal::AtLimit);
+    }
+    Ok(())
 }
 
 // phase 0: clock + 1, new local stamp, phase 1
+#[tactic(auto, unfolding(boxes::specs::Multicast::proposed, laws::specs::Choice::pick))]
 fn propose(plan: Plan, x: BoxState, job: u8) -> BoxState
     requires { (job < most_jobs) × (x.core.clock ≤ most_time) }
     ensures { result ≡ proposed plan x job }
 {
-    let row = boxes::row_at(x, job);
-    if row.phase == house::START {} else {
+    if boxes::row_at(x, job).phase != house::START {
         return x;
     }
-    let c = x.core;
-    let time = c.clock + 1;
-    let home = boxes::home_in(plan, x);
+    let time = x.core.clock + 1;
     let local = Stamp {
-        time: time,
-        district: home,
+        time,
+        district: boxes::home_in(plan, x),
     };
-    let none = house::no_stamp();
     let new = Row {
         phase: house::PROPOSED,
-        local: local,
-        global: none,
+        local,
+        global: house::no_stamp(),
     };
-    let j = job as usize;
-    boxes::put_row(x, time, j, new)
+    boxes::put_row(x, time, job as usize, new)
 }
 
 // 1 MULTICAST
 pub fn do_multicast(plan: Plan, x: BoxState, job: u8, tray: &mut [u8]) -> Outcome
-    requires { (plan_sound plan ≡ true) × (job < most_jobs) × (x.core.clock ≤ most_time) × (length (encode_all plan (records_of (on_multicast plan x job))) ≤ length tray.old) × (multicast_answer plan x job ≡ Answer.Done) }
+    requires { (plan_sound plan ≡ true) × (job < most_jobs) × (x.core.clock ≤ most_time) × (length (encode_all plan (records_of (on_multicast plan x job))) ≤ length tray.old) × (multicast_answer plan x job ≡ done) }
     ensures { (result ≡ result_of plan x (on_multicast plan x job)) × (tray.new ≡ onto (encode_all plan (records_of (on_multicast plan x job))) tray.old) }
 {
     let y = propose(plan, x, job);
-    let c = y.core;
-    let own = c.own;
-    let r = sending::accept_record(y, own, job);
+    let r = sending::accept_record(y, y.core.own, job);
     let meant = house::named_boxes(plan, job);
     sending::done_sending(plan, y, r, meant, tray)
 }

@@ -8,17 +8,21 @@ ghost use Rattle.sending.specs.Sends.{Written};
 
 use boxes::BoxState;
 use house::Plan;
-use records::Answer;
+use records::{Answer, Refusal};
 use sending::Sent;
 
 // retry: phase 0 or 3 is done already
+#[tactic(auto, unfolding(boxes::specs::Retry::retry_answer))]
 pub fn decide_retry(plan: Plan, x: BoxState, job: u8) -> Answer
     ensures { result ≡ retry_answer plan x job }
 {
-    let home = boxes::home_in(plan, x);
-    let named = house::named(plan, job, home);
-    let undone = sending::is_open(x, job);
-    boxes::in_order(named, true, true, undone, true)
+    if !house::named(plan, job, boxes::home_in(plan, x)) {
+        return Err(Refusal::NotNamed);
+    }
+    if !sending::is_open(x, job) {
+        return Err(Refusal::AlreadyDone);
+    }
+    Ok(())
 }
 
 // the job's MULTICAST again; the box stays as it is
@@ -26,9 +30,7 @@ pub fn do_retry(plan: Plan, x: BoxState, job: u8, tray: &mut [u8]) -> Sent
     requires { (plan_sound plan ≡ true) × (length (encode_all plan (retries plan x job)) ≤ length tray.old) }
     ensures { Written plan (retries plan x job) tray.old result tray.new }
 {
-    let c = x.core;
-    let own = c.own;
-    let r = sending::multicast_record(own, own, job);
+    let r = sending::multicast_record(x.core.own, x.core.own, job);
     let meant = house::named_boxes(plan, job);
     sending::send(tray, plan, r, meant)
 }

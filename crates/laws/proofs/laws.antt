@@ -1,6 +1,7 @@
 -- The laws of laws.
 pub mod Choice
 pub mod Fold
+pub mod Ranges
 pub mod Place
 pub mod Induction
 pub mod Lex

@@ -19,22 +19,22 @@ pub struct Merged {
 }
 
 // a vote as it is kept
+#[tactic(auto, unfolding(boxes::specs::NewleaderAck::vote_of))]
 pub fn vote_of(from: BoxNo, y: Ballotpaper) -> Vote
     ensures { result ≡ vote_of from y }
 {
-    let cballot = y.cballot;
-    let clock = y.clock;
     let table = y.table;
     Vote {
         held: true,
         voter: from,
-        cballot: cballot,
-        clock: clock.time,
-        table: table,
+        cballot: y.cballot,
+        clock: y.clock.time,
+        table,
     }
 }
 
 // the higher of two ballots
+#[tactic(auto, unfolding(laws::specs::Lex::larger, laws::specs::Choice::pick))]
 fn higher_ballot(low: Ballot, high: Ballot) -> Ballot
     ensures { result ≡ higher_ballot low high }
 {
@@ -52,6 +52,7 @@ fn top_clock(low: Vote, high: Vote) -> u32
 }
 
 // the row of the first of two votes that passes, else another row
+#[tactic(auto, unfolding(laws::specs::Choice::pick))]
 fn first_row(one: bool, low: Row, two: bool, high: Row, other: Row) -> Row
     ensures { result ≡ pick one low (pick two high other) }
 {
@@ -71,8 +72,7 @@ fn merged_row(low: Ballot, a: Row, high: Ballot, b: Row) -> Row
     let top = higher_ballot(low, high);
     let at_one = house::same_ballot(low, top) & (a.phase == house::ACCEPTED);
     let at_two = house::same_ballot(high, top) & (b.phase == house::ACCEPTED);
-    let start = house::no_row();
-    let accepted = first_row(at_one, a, at_two, b, start);
+    let accepted = first_row(at_one, a, at_two, b, house::no_row());
     first_row(
         a.phase == house::COMMITTED,
         a,
@@ -86,17 +86,9 @@ fn merged_table(low: Vote, high: Vote, jobs: u8) -> [Row; house::JOBS]
     requires { jobs ≤ most_jobs }
     ensures { result ≡ merged_table (low ∷ high ∷ []) jobs }
 {
-    let one = low.cballot;
-    let two = high.cballot;
-    let rows = low.table;
-    let others = high.table;
-    let n = jobs as usize;
-    let start = house::no_row();
-    let mut table = [start; house::JOBS];
-    for j in 0..n {
-        let a = rows[j];
-        let b = others[j];
-        table[j] = merged_row(one, a, two, b);
+    let mut table = [house::no_row(); house::JOBS];
+    for j in 0..jobs as usize {
+        table[j] = merged_row(low.cballot, low.table[j], high.cballot, high.table[j]);
     }
     table
 }
@@ -106,11 +98,9 @@ fn merge_two(low: Vote, high: Vote, jobs: u8) -> Merged
     requires { jobs ≤ most_jobs }
     ensures { (result.clock ≡ top_clock (low ∷ high ∷ [])) × (result.table ≡ merged_table (low ∷ high ∷ []) jobs) }
 {
-    let clock = top_clock(low, high);
-    let table = merged_table(low, high, jobs);
     Merged {
-        clock: clock,
-        table: table,
+        clock: top_clock(low, high),
+        table: merged_table(low, high, jobs),
     }
 }
 
@@ -119,28 +109,21 @@ fn merge_votes(old: Vote, new: Vote, jobs: u8) -> Merged
     requires { (old.held ≡ true) × (jobs ≤ most_jobs) }
     ensures { (result.clock ≡ top_clock (votes_with old new)) × (result.table ≡ merged_table (votes_with old new) jobs) }
 {
-    let p = old.voter;
-    let q = new.voter;
-    if p.0 < q.0 {
+    if old.voter.0 < new.voter.0 {
         return merge_two(old, new, jobs);
     }
     merge_two(new, old, jobs)
 }
 
 // table merged, clock the larger, sent flags cleared, cballot set, vote dropped
+#[tactic(auto, unfolding(boxes::specs::Merge::merged))]
 pub fn merge(plan: Plan, x: BoxState, new: Vote) -> BoxState
     requires { (x.volatile.vote.held ≡ true) × (plan.jobs ≤ most_jobs) }
     ensures { result ≡ merged plan x (votes_with x.volatile.vote new) }
 {
-    let c = x.core;
-    let b = c.ballot;
-    let v = x.volatile;
-    let old = v.vote;
-    let m = merge_votes(old, new, plan.jobs);
-    let table = m.table;
-    let with_table = boxes::put_table(x, m.clock, table);
-    let cleared = [false; house::JOBS];
-    let unsent = boxes::put_sent(with_table, cleared);
-    let mode = boxes::put_mode(unsent, Status::Recovering, b, b);
+    let m = merge_votes(x.volatile.vote, new, plan.jobs);
+    let with_table = boxes::put_table(x, m.clock, m.table);
+    let unsent = boxes::put_sent(with_table, [false; house::JOBS]);
+    let mode = boxes::put_mode(unsent, Status::Recovering, x.core.ballot, x.core.ballot);
     boxes::put_vote(mode, boxes::no_vote())
 }

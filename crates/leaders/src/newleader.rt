@@ -4,40 +4,41 @@ ghost use Rattle.std.specs.Prelude.{◌≡◌, true, ◌≤◌, length};
 ghost use Rattle.boxes.specs.Newleader.{joined, on_newleader, newleader_answer};
 ghost use Rattle.laws.specs.Tray.{onto};
 ghost use Rattle.house.specs.Plan.{plan_sound};
+ghost use Rattle.records.specs.Answers.{done};
 ghost use Rattle.records.specs.Bytes.{encode_all};
 ghost use Rattle.boxes.specs.Out.{result_of, records_of};
 
-use boxes::{BoxState, Delivery, Outcome, Status};
+use boxes::{BoxState, Outcome, Status};
 use house::{Ballot, BoxNo, Plan};
-use records::Answer;
+use records::{Answer, Refusal};
 
 // 5 NEWLEADER: any status, ballot above own ballot
+#[tactic(auto, unfolding(boxes::specs::Newleader::newleader_answer))]
 pub fn decide_newleader(x: BoxState, b: Ballot) -> Answer
     ensures { result ≡ newleader_answer x b }
 {
-    let c = x.core;
-    let own = c.ballot;
-    let above = house::ballot_below(own, b);
-    boxes::in_order(true, true, above, true, true)
+    if !house::ballot_below(x.core.ballot, b) {
+        return Err(Refusal::WrongBallot);
+    }
+    Ok(())
 }
 
 // recovering, ballot set, vote dropped
+#[tactic(auto, unfolding(boxes::specs::Newleader::joined))]
 fn join(x: BoxState, b: Ballot) -> BoxState
     ensures { result ≡ joined x b }
 {
-    let c = x.core;
-    let cballot = c.cballot;
     let dropped = boxes::put_vote(x, boxes::no_vote());
-    boxes::put_mode(dropped, Status::Recovering, b, cballot)
+    boxes::put_mode(dropped, Status::Recovering, b, x.core.cballot)
 }
 
 // 5 NEWLEADER
 pub fn do_newleader(plan: Plan, x: BoxState, from: BoxNo, b: Ballot, tray: &mut [u8]) -> Outcome
-    requires { (plan_sound plan ≡ true) × (length (encode_all plan (records_of (on_newleader plan x from b))) ≤ length tray.old) × (newleader_answer x b ≡ Answer.Done) }
+    requires { (plan_sound plan ≡ true) × (length (encode_all plan (records_of (on_newleader plan x from b))) ≤ length tray.old) × (newleader_answer x b ≡ done) }
     ensures { (result ≡ result_of plan x (on_newleader plan x from b)) × (tray.new ≡ onto (encode_all plan (records_of (on_newleader plan x from b))) tray.old) }
 {
     let y = join(x, b);
     let r = sending::vote_record(plan, x, from, b);
     let used = writer::put_record(tray, plan, r);
-    boxes::done(y, used, 1, Delivery::Nothing)
+    boxes::done(y, used, 1, None)
 }

@@ -4,40 +4,44 @@ ghost use Rattle.std.specs.Prelude.{◌≡◌, leb, true, ◌≤◌, length};
 ghost use Rattle.house.specs.Plan.{quorum_of, plan_sound};
 ghost use Rattle.boxes.specs.NewleaderAck.{votes_count, voted_by, when_voted, on_newleader_ack, newleader_ack_answer};
 ghost use Rattle.laws.specs.Tray.{onto};
+ghost use Rattle.records.specs.Answers.{done};
 ghost use Rattle.records.specs.Bytes.{encode_all};
 ghost use Rattle.boxes.specs.Out.{result_of, records_of};
 
 use crate::merge;
-use boxes::{BoxState, Delivery, Outcome, Vote};
+use boxes::{BoxState, Outcome, Vote};
 use house::{Ballot, BoxNo, Plan};
-use records::{Answer, Ballotpaper};
+use records::{Answer, Ballotpaper, Refusal};
 
 // this box has voted already
+#[tactic(auto, unfolding(boxes::specs::NewleaderAck::voted_by))]
 fn voted_by(x: BoxState, from: BoxNo) -> bool
     ensures { result ≡ voted_by x from }
 {
-    let v = x.volatile;
-    let vote = v.vote;
-    let voter = vote.voter;
-    vote.held & (voter.0 == from.0)
+    let vote = x.volatile.vote;
+    vote.held & (vote.voter.0 == from.0)
 }
 
 // 6 NEWLEADER_ACK: recovering, ballot equal, not merged already and not the same voter
+#[tactic(auto, unfolding(boxes::specs::NewleaderAck::newleader_ack_answer))]
 pub fn decide_newleader_ack(x: BoxState, from: BoxNo, b: Ballot) -> Answer
     ensures { result ≡ newleader_ack_answer x from b }
 {
-    let c = x.core;
-    let status = c.status;
-    let ballot = c.ballot;
-    let cballot = c.cballot;
-    let recovering = boxes::is_recovering(status);
-    let same = house::same_ballot(b, ballot);
-    let merged = house::same_ballot(cballot, ballot);
-    let voted = voted_by(x, from);
-    boxes::in_order(true, recovering, same, !merged & !voted, true)
+    if !boxes::is_recovering(x.core.status) {
+        return Err(Refusal::WrongStatus);
+    }
+    if !house::same_ballot(b, x.core.ballot) {
+        return Err(Refusal::WrongBallot);
+    }
+    let is_merged = house::same_ballot(x.core.cballot, x.core.ballot);
+    if is_merged || voted_by(x, from) {
+        return Err(Refusal::AlreadyDone);
+    }
+    Ok(())
 }
 
 // the votes at hand with one more
+#[tactic(auto, unfolding(boxes::specs::NewleaderAck::votes_count, laws::specs::Choice::pick))]
 fn votes_count(old: Vote) -> u8
     ensures { result ≡ votes_count old }
 {
@@ -48,10 +52,7 @@ fn votes_count(old: Vote) -> u8
 fn is_quorum(plan: Plan, x: BoxState) -> bool
     ensures { result ≡ leb (quorum_of plan) (votes_count x.volatile.vote) }
 {
-    let v = x.volatile;
-    let vote = v.vote;
-    let most = votes_count(vote);
-    house::quorum_of(plan) <= most
+    house::quorum_of(plan) <= votes_count(x.volatile.vote)
 }
 
 // 6 NEWLEADER_ACK, with a vote to keep or to merge
@@ -61,14 +62,12 @@ fn when_voted(plan: Plan, x: BoxState, v: Vote, tray: &mut [u8]) -> Outcome
 {
     if is_quorum(plan, x) {
         let y = merge::merge(plan, x, v);
-        let c = y.core;
-        let own = c.own;
-        let r = sending::new_state_record(plan, y, own);
-        let meant = house::other_boxes(plan, own);
+        let r = sending::new_state_record(plan, y, y.core.own);
+        let meant = house::other_boxes(plan, y.core.own);
         return sending::done_sending(plan, y, r, meant, tray);
     }
     let y = boxes::put_vote(x, v);
-    boxes::done(y, 0, 0, Delivery::Nothing)
+    boxes::done(y, 0, 0, None)
 }
 
 // 6 NEWLEADER_ACK
@@ -79,7 +78,7 @@ pub fn do_newleader_ack(
     y: Ballotpaper,
     tray: &mut [u8],
 ) -> Outcome
-    requires { (plan_sound plan ≡ true) × (length (encode_all plan (records_of (on_newleader_ack plan x from y))) ≤ length tray.old) × (newleader_ack_answer x from y.ballot ≡ Answer.Done) }
+    requires { (plan_sound plan ≡ true) × (length (encode_all plan (records_of (on_newleader_ack plan x from y))) ≤ length tray.old) × (newleader_ack_answer x from y.ballot ≡ done) }
     ensures { (result ≡ result_of plan x (on_newleader_ack plan x from y)) × (tray.new ≡ onto (encode_all plan (records_of (on_newleader_ack plan x from y))) tray.old) }
 {
     let v = merge::vote_of(from, y);

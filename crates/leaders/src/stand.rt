@@ -9,16 +9,18 @@ ghost use Rattle.sending.specs.Sends.{Written};
 
 use boxes::BoxState;
 use house::Plan;
-use records::Answer;
+use records::{Answer, Refusal};
 use sending::Sent;
 
 // stand: room for the next ballot number
+#[tactic(auto, unfolding(boxes::specs::Stand::stand_answer))]
 pub fn decide_stand(x: BoxState) -> Answer
     ensures { result ≡ stand_answer x }
 {
-    let c = x.core;
-    let ballot = c.ballot;
-    boxes::in_order(true, true, true, true, ballot.number < house::MOST_NUMBER)
+    if house::MOST_NUMBER <= x.core.ballot.number {
+        return Err(Refusal::AtLimit);
+    }
+    Ok(())
 }
 
 // NEWLEADER with the next ballot to the district; the box stays as it is
@@ -26,9 +28,7 @@ pub fn do_stand(plan: Plan, x: BoxState, tray: &mut [u8]) -> Sent
     requires { (plan_sound plan ≡ true) × (x.core.ballot.number < most_number) × (length (encode_all plan (standing plan x)) ≤ length tray.old) }
     ensures { Written plan (standing plan x) tray.old result tray.new }
 {
-    let c = x.core;
-    let own = c.own;
-    let r = sending::stand_record(x, own);
-    let meant = house::home_boxes(plan, own);
+    let r = sending::stand_record(x, x.core.own);
+    let meant = house::home_boxes(plan, x.core.own);
     sending::send(tray, plan, r, meant)
 }

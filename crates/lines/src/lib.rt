@@ -18,6 +18,7 @@ pub enum Typed {
 }
 
 // What has come of a line: how many bytes, where 32 stands for more than 31, and the bytes.
+// Stays: a buffer with its length beside it, since the project's rule of fixed memory allows no Vec.
 #[derive(Clone, Copy)]
 pub struct LineState {
     pub len: usize,

@@ -2,7 +2,7 @@
 // The promises stand in specs/Reads.antt.
 ghost use Rattle.std.specs.Prelude.{[], ◌∷◌, ◌≡◌};
 ghost use Rattle.lines.specs.Parts.{words};
-ghost use Rattle.lines.specs.Orders.{one_number, order_of_words};
+ghost use Rattle.lines.specs.Orders.{order_of_words};
 ghost use Rattle.lines.specs.Reads.{LineRead, NothingHeld, ByteHeld, HeldRead};
 
 use crate::{LineState, Typed, words};
@@ -11,65 +11,44 @@ use house::Order;
 // The most bytes that a readable line may have.
 const LONGEST: usize = 31;
 
-// What a word and one number say.
-fn one_number(word: &[u8], n: u32) -> Typed
-    ensures { result ≡ one_number word.now n }
-{
-    if words::is_word(word, b"districts") {
-        return Typed::Districts(n);
-    }
-    if words::is_word(word, b"job") {
-        return Typed::Job(n);
-    }
-    if words::is_word(word, b"post") {
-        return Typed::Given(Order::Post(n));
-    }
-    if words::is_word(word, b"stand") {
-        return Typed::Given(Order::Stand(n));
-    }
-    if words::is_word(word, b"cut") {
-        return Typed::Given(Order::Cut(n));
-    }
-    if words::is_word(word, b"carry") {
-        return Typed::Given(Order::Carry(n));
-    }
-    Typed::Unreadable
-}
-
-// What two words say.
+// What two words say: a word and one number.
+// Stays: a chain of ifs, since a match on byte strings tells its proof only how long the word is, and the proof did not close.
+#[tactic(auto, unfolding(crate::specs::Orders::order_of_words, crate::specs::Orders::one_number, laws::specs::Choice::pick))]
 fn two_words(word: &[u8], number: &[u8]) -> Typed
     ensures { result ≡ order_of_words (word.now ∷ number.now ∷ []) }
 {
-    if words::is_number(number) {
-        return one_number(word, words::value(number));
+    let Some(n) = words::number(number) else {
+        return Typed::Unreadable;
+    };
+    if words::is_word(word, b"districts") {
+        Typed::Districts(n)
+    } else if words::is_word(word, b"job") {
+        Typed::Job(n)
+    } else if words::is_word(word, b"post") {
+        Typed::Given(Order::Post(n))
+    } else if words::is_word(word, b"stand") {
+        Typed::Given(Order::Stand(n))
+    } else if words::is_word(word, b"cut") {
+        Typed::Given(Order::Cut(n))
+    } else if words::is_word(word, b"carry") {
+        Typed::Given(Order::Carry(n))
+    } else {
+        Typed::Unreadable
     }
-    Typed::Unreadable
 }
 
-// What three words say, of which `rest` is the last, or more.
-fn three_words(word: &[u8], number: &[u8], rest: &[u8]) -> Typed
-    ensures { result ≡ order_of_words (word.now ∷ number.now ∷ words rest.now) }
+// What three words say, of which the last may be more: a word and two numbers.
+#[tactic(auto, using(crate::proofs::laws::OrderLaws::three_words), unfolding(laws::specs::Choice::pick))]
+fn three_words(word: &[u8], first: &[u8], second: &[u8]) -> Typed
+    ensures { result ≡ order_of_words (word.now ∷ first.now ∷ words second.now) }
 {
-    if words::first_space(rest) < rest.len() {
+    if !words::is_word(word, b"retry") {
         return Typed::Unreadable;
     }
-    let numbers = words::is_number(number) & words::is_number(rest);
-    if words::is_word(word, b"retry") & numbers {
-        return Typed::Given(Order::Retry(words::value(number), words::value(rest)));
+    match (words::number(first), words::number(second)) {
+        (Some(b), Some(j)) => Typed::Given(Order::Retry(b, j)),
+        _ => Typed::Unreadable,
     }
-    Typed::Unreadable
-}
-
-// What a word and the words behind it say.
-fn order_of_rest(word: &[u8], rest: &[u8]) -> Typed
-    ensures { result ≡ order_of_words (word.now ∷ words rest.now) }
-{
-    let k = words::first_space(rest);
-    if k < rest.len() {
-        let next = k + 1;
-        return three_words(word, &rest[0..k], &rest[next..]);
-    }
-    two_words(word, rest)
 }
 
 // What a line says.
@@ -79,12 +58,13 @@ pub fn order_of_line(line: &[u8]) -> Typed
     if LONGEST < line.len() {
         return Typed::Unreadable;
     }
-    let k = words::first_space(line);
-    if k < line.len() {
-        let at = k + 1;
-        return order_of_rest(&line[0..k], &line[at..]);
+    let Some((word, numbers)) = words::split_word(line) else {
+        return Typed::Unreadable;
+    };
+    match words::split_word(numbers) {
+        Some((first, second)) => three_words(word, first, second),
+        None => two_words(word, numbers),
     }
-    Typed::Unreadable
 }
 
 // The line of which nothing has come.
@@ -98,29 +78,22 @@ pub fn no_line() -> LineState
 }
 
 // The line with one byte more. Of a line over 31 bytes no more is kept.
+#[tactic(auto, using(crate::proofs::laws::ReadLaws::byte_held), unfolding(crate::specs::Held::pushed, laws::specs::Choice::pick))]
 pub fn push(line: LineState, byte: u8) -> LineState
     ensures { ByteHeld line byte result }
 {
-    let n = line.len;
-    if LONGEST < n {
+    if LONGEST < line.len {
         return line;
     }
-    let mut bytes = line.bytes;
-    bytes[n] = byte;
-    LineState {
-        len: n + 1,
-        bytes: bytes,
-    }
+    let mut longer = line;
+    longer.bytes[line.len] = byte;
+    longer.len += 1;
+    longer
 }
 
 // What the line held says.
 pub fn order_held(line: LineState) -> Typed
     ensures { HeldRead line result }
 {
-    let n = line.len;
-    if LONGEST < n {
-        return Typed::Unreadable;
-    }
-    let bytes = line.bytes;
-    order_of_line(&bytes[0..n])
+    order_of_line(&line.bytes[..line.len.min(line.bytes.len())])
 }

@@ -1,69 +1,52 @@
 // The words of a line, and the numbers among them.
 // What each function means stands in specs/Parts.antt and specs/Numeral.antt.
-ghost use Rattle.std.specs.Prelude.{true, ◌≡◌, ◌-◌, ◌<◌, ◌≤◌, length};
-ghost use Rattle.lines.specs.Parts.{same, first_of, space};
-ghost use Rattle.lines.specs.Numeral.{is_digit, all_digits, is_number, value_of};
+ghost use Rattle.std.specs.Prelude.{[], ◌∷◌, true, ◌≡◌, Some, None};
+ghost use Rattle.std.specs.Option.{MatchOption};
+ghost use Rattle.laws.specs.Choice.{pick};
+ghost use Rattle.lines.specs.Parts.{same, words};
+ghost use Rattle.lines.specs.Numeral.{is_number, value_of};
 
 // Whether a word is the one that is meant.
-pub fn is_word(a: &[u8], b: &[u8]) -> bool
-    ensures { result ≡ same a.now b.now }
+pub fn is_word(word: &[u8], meant: &[u8]) -> bool
+    ensures { result ≡ same word.now meant.now }
 {
-    check::same(a, b)
+    word == meant
 }
 
-// The place of the first space, or the length where there is none.
-pub fn first_space(s: &[u8]) -> usize
-    ensures { (result ≤ length s.now) × (result ≡ first_of space s.now) }
+// A text's first word and what stands behind its space, or none where no space stands in the text.
+pub fn split_word(text: &[u8]) -> Option<(&[u8], &[u8])>
+    ensures { MatchOption result (words text.now ≡ text.now ∷ []) (λ parts. words text.now ≡ parts.0.now ∷ words parts.1.now) }
 {
-    let mut i = 0;
-    while i < s.len() {
-        if s[i] == b' ' {
-            return i;
-        }
-        i += 1;
-    }
-    i
-}
-
-fn is_digit(b: u8) -> bool
-    ensures { result ≡ is_digit b }
-{
-    (b'0' <= b) & (b <= b'9')
-}
-
-fn all_digits(s: &[u8]) -> bool
-    ensures { result ≡ all_digits s.now }
-{
-    let mut ok = true;
-    for i in 0..s.len() {
-        ok = ok & is_digit(s[i]);
-    }
-    ok
+    let k = text.iter().position(|b| *b == b' ')?;
+    Some((&text[..k], &text[k + 1..]))
 }
 
 // Whether a word is a number: 1 to 9 digits.
-pub fn is_number(s: &[u8]) -> bool
-    ensures { result ≡ is_number s.now }
+fn is_number(word: &[u8]) -> bool
+    ensures { result ≡ is_number word.now }
 {
-    let n = s.len();
-    (1 <= n) & (n <= 9) & all_digits(s)
+    (1..=9).contains(&word.len()) && word.iter().all(|b| b.is_ascii_digit())
 }
 
-fn digit(b: u8) -> u32
-    requires { is_digit b ≡ true }
-    ensures { (result < 10) × (result ≡ b - 48) }
+// The number that digits write.
+fn value(digits: &[u8]) -> u32
+    requires { is_number digits.now ≡ true }
+    ensures { result ≡ value_of digits.now }
 {
-    (b - b'0') as u32
-}
-
-// The number that a word writes.
-pub fn value(s: &[u8]) -> u32
-    requires { is_number s.now ≡ true }
-    ensures { result ≡ value_of s.now }
-{
-    let mut v: u32 = 0;
-    for i in 0..s.len() {
-        v = v * 10 + digit(s[i]);
+    let mut n = 0;
+    for b in digits {
+        n = n * 10 + (b - b'0') as u32;
     }
-    v
+    n
+}
+
+// The number that a word writes, if it is one.
+#[tactic(auto, unfolding(laws::specs::Choice::pick))]
+pub fn number(word: &[u8]) -> Option<u32>
+    ensures { result ≡ pick (is_number word.now) (Some (value_of word.now)) None }
+{
+    if !is_number(word) {
+        return None;
+    }
+    Some(value(word))
 }

@@ -20,29 +20,20 @@ pub const INDEX_ROOM: usize = MOST_RECORDS + 1;
 pub fn room_of(post: &[u8]) -> usize
     ensures { (result ≡ room_of post.now) × (result ≤ length post.now) }
 {
-    if post.len() < house::MOST_POST {
-        return post.len();
-    }
-    house::MOST_POST
+    post.len().min(house::MOST_POST)
 }
 
 // whether so many bytes more fit
 pub fn more_fits(used: usize, more: usize, room: usize) -> bool
     ensures { result ≡ leb (used + more) room }
 {
-    if room < used {
-        return false;
-    }
-    more <= room - used
+    room.checked_sub(used).is_some_and(|left| more <= left)
 }
 
 pub fn byte_at(s: &[u8], at: usize) -> u8
     ensures { result ≡ get_or s.now at 0 }
 {
-    if at < s.len() {
-        return s[at];
-    }
-    0
+    s.get(at).copied().unwrap_or(0)
 }
 
 // where the next record begins
@@ -51,8 +42,7 @@ fn next_start(plan: Plan, s: &[u8], used: usize, at: usize) -> usize
     ensures { (result ≡ next_start plan s.now used at) × (result ≤ at + 5000) }
 {
     if at < used {
-        let kind = byte_at(s, at + 1);
-        return at + records::length_of(plan, kind);
+        return at + records::length_of(plan, byte_at(s, at + 1));
     }
     at
 }
@@ -63,7 +53,7 @@ fn start_from(plan: Plan, s: &[u8], used: usize, from: usize, k: u32) -> usize
     ensures { (result ≡ walk_from plan s.now used from k) × (result ≤ most_place) }
 {
     let mut at = from;
-    for i in 0..k {
+    for _ in 0..k {
         if used <= at {
             return at;
         }
@@ -73,24 +63,21 @@ fn start_from(plan: Plan, s: &[u8], used: usize, from: usize, k: u32) -> usize
 }
 
 // the index goes on until it has record k, or as far as records lie within what is used and its room goes: the last record that it has
+// Stays: the loop counts places, since each entry is written from the one before it in the same tray.
 pub fn extend(plan: Plan, s: &[u8], used: usize, index: &mut [u16], count: usize, k: u32) -> usize
     requires { Indexed plan s.now used index.old count }
     ensures { Indexed plan s.now used index.new result × (count ≤ result) }
 {
     let want = k as usize;
-    let mut n = count;
-    while n < want {
+    for n in count..want {
         let at = index[n] as usize;
         let next = next_start(plan, s, used, at);
-        if (n + 1 < index.len())
-            & ((at < used) & ((next <= used) & (next < house::MOST_POST)))
-        {} else {
+        if n + 1 == index.len() || used <= at || used < next || house::MOST_POST <= next {
             return n;
         }
-        n += 1;
-        index[n] = next as u16;
+        index[n + 1] = next as u16;
     }
-    n
+    want.max(count)
 }
 
 // where record k begins: by the index as far as it goes, else on from its last place
@@ -102,18 +89,14 @@ pub fn find_start(plan: Plan, s: &[u8], used: usize, k: u32, index: &[u16], coun
     if want <= count {
         return index[want] as usize;
     }
-    let at = index[count] as usize;
-    start_from(plan, s, used, at, k - count as u32)
+    start_from(plan, s, used, index[count] as usize, k - count as u32)
 }
 
 // the smaller of a place and a length
 pub fn within(at: usize, len: usize) -> usize
     ensures { (result ≡ pick (ltb at len) at len) × (result ≤ len) × (result ≤ at) }
 {
-    if at < len {
-        return at;
-    }
-    len
+    at.min(len)
 }
 
 // bytes written behind what is used
@@ -121,6 +104,5 @@ pub fn put_behind(post: &mut [u8], used: usize, bytes: &[u8])
     requires { used + length bytes.now ≤ length post.old }
     ensures { post.new ≡ take used post.old ++ onto bytes.now (drop used post.old) }
 {
-    let end = used + bytes.len();
-    post[used..end].copy_from_slice(bytes);
+    post[used..used + bytes.len()].copy_from_slice(bytes);
 }

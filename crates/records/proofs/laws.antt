@@ -1,9 +1,9 @@
 -- The laws of records.
 pub mod Answers
+pub mod Outcome
 pub mod Rec
 pub mod Table
 pub mod Kinds
-pub mod Outcome
 pub mod Examples
 pub mod Sections
 pub mod Bytes

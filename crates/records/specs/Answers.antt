@@ -1,82 +1,53 @@
--- Answers: the table of document 01 under one name a number, in the order of checking; and what an answer of the code says in these numbers.
--- The code's constants of the same names stand in src/lib.rt.
-use Rattle.std.specs.Prelude.{ℕ, zero, suc, Bool, true, false, ◌≡◌}
-use Rattle.records.specs.declared.Answer.{Answer}
-use Rattle.records.specs.declared.Answer.TheVariants.{Done, No}
+-- Answers: the table of document 01, the number of each refusal in the order of checking; and what an answer of the code says in these numbers.
+use Rattle.std.specs.Prelude.{ℕ, Bool, true, false, ◌≡◌, Result, Ok, Err}
+use Rattle.std.specs.Result.{is_ok}
+use Rattle.records.specs.declared.answers.Refusal.{Refusal}
+use Rattle.records.specs.declared.answers.Refusal.TheVariants.{NotSound, SmallTray, Unreadable, BrokenRule, OtherBox, NotNamed, WrongStatus, WrongBallot, AlreadyDone, AtLimit, NoSuch, PostFull}
 
--- 1 plan or box not sound
-abbrev pub not_sound : ℕ
-not_sound = 1
+abbrev pub refusal_no : Refusal → ℕ
+-- plan or box not sound
+refusal_no NotSound = 1
+-- tray under 4,096 bytes
+refusal_no SmallTray = 2
+-- unknown kind, a section count that isn't its kind's, bytes missing or left over
+refusal_no Unreadable = 3
+-- a value breaks a rule
+refusal_no BrokenRule = 4
+-- "to" is another box
+refusal_no OtherBox = 5
+-- job doesn't name the district
+refusal_no NotNamed = 6
+-- status
+refusal_no WrongStatus = 7
+-- ballot
+refusal_no WrongBallot = 8
+-- already done
+refusal_no AlreadyDone = 9
+-- clock or ballot limit
+refusal_no AtLimit = 10
+-- rehearsal: no such box, job or record; after 1 for the plan, before all the others
+refusal_no NoSuch = 11
+-- rehearsal: post full; after 1 to 10
+refusal_no PostFull = 12
 
--- 2 tray under 4,096 bytes
-abbrev pub small_tray : ℕ
-small_tray = 2
+-- what a call answers that gives nothing but its answer
+abbrev pub Answer : Type 0
+Answer = Result (Unit {0}) Refusal
 
--- 3 unknown kind, a section count that isn't its kind's, bytes missing or left over
-abbrev pub unreadable : ℕ
-unreadable = 3
-
--- 4 a value breaks a rule
-abbrev pub broken_rule : ℕ
-broken_rule = 4
-
--- 5 "to" is another box
-abbrev pub other_box : ℕ
-other_box = 5
-
--- 6 job doesn't name the district
-abbrev pub not_named : ℕ
-not_named = 6
-
--- 7 status
-abbrev pub wrong_status : ℕ
-wrong_status = 7
-
--- 8 ballot
-abbrev pub wrong_ballot : ℕ
-wrong_ballot = 8
-
--- 9 already done
-abbrev pub already_done : ℕ
-already_done = 9
-
--- 10 clock or ballot limit
-abbrev pub at_limit : ℕ
-at_limit = 10
-
--- 11 rehearsal: no such box, job or record; after 1 for the plan, before all the others
-abbrev pub no_such : ℕ
-no_such = 11
-
--- 12 rehearsal: post full; after 1 to 10
-abbrev pub post_full : ℕ
-post_full = 12
+abbrev pub done : Answer
+done = Ok tt
 
 -- the number of an answer; 0 where all was done
-abbrev pub answer_no : Answer → ℕ
-answer_no Done = 0
-answer_no (No n) = n
-
-abbrev pub is_done : Answer → Bool
-is_done Done = true
-is_done (No n) = false
+abbrev pub answer_no : {T : Type 0} → Result T Refusal → ℕ
+answer_no (Ok v) = 0
+answer_no (Err why) = refusal_no why
 
 -- an answer says 'done' or not, and this number
-pub record Answered (a : Answer) (done : Bool) (n : ℕ) : Type 0 where
-  pub done_is : is_done a ≡ done
+pub record Answered {T : Type 0} (a : Result T Refusal) (done : Bool) (n : ℕ) : Type 0 where
+  pub done_is : is_ok a ≡ done
   pub number : answer_no a ≡ n
 
--- the answer with a number: 0 is done
-abbrev pub answer_of : ℕ → Answer
-answer_of zero = Done
-answer_of (suc n) = No (suc n)
-
--- the number n unless the test holds: tests one in another have the number of the first that fails
-abbrev pub unless : Bool → ℕ → ℕ → ℕ
-unless true n k = k
-unless false n k = n
-
--- the answer n unless the test holds
-abbrev pub or_no : Bool → ℕ → Answer → Answer
-or_no true n a = a
-or_no false n a = No n
+-- refused unless the test holds: tests one in another are refused by the first that fails
+abbrev pub or_no : {T : Type 0} → Bool → Refusal → Result T Refusal → Result T Refusal
+or_no true why a = a
+or_no false why a = Err why

@@ -1,7 +1,7 @@
 -- Ballots in 3 bytes, the box last; stamps in 5, the district last; rows in 11: phase, local, global.
 use Rattle.std.specs.Prelude.{ℕ, ◌^◌, ◌<◌, ◌≤◌, List, ◌∷◌, ◌++◌, ◌≡◌, refl, length, take, drop, get_or}
 use Rattle.std.proofs.Common.{sym, ◌∙◌, ap, ap₂, arith, length-drop, take-suc, take-add}
-use Rattle.laws.specs.Codec.{Codec, pair_bytes, pair_length, pair_number, pair_byte, pair_again, bytes_drop}
+use Rattle.laws.specs.Codec.{Codec, enc_row, pair_bytes, pair_length, pair_number, pair_byte, pair_again, bytes_drop}
 use Rattle.laws.specs.Number.{number, Bytes}
 use Rattle.house.specs.Pairs.{stamp, ballot}
 use Rattle.house.specs.declared.Stamp.{Stamp}
@@ -76,3 +76,20 @@ rows =
       dec_enc = row_dec_enc;
       enc_dec = row_enc_dec;
     }
+
+-- how many bytes each has
+pub ballot_width : ballots.w ≡ 3
+unfolding ballots
+ballot_width = refl
+
+pub stamp_width : stamps.w ≡ 5
+unfolding stamps
+stamp_width = refl
+
+pub row_width : rows.w ≡ 11
+unfolding rows
+row_width = refl
+
+-- a section of a record: its count, and its parts one behind the other
+abbrev pub section_of : {A : Type 0} → Codec A → List A → List ℕ
+section_of C l = length l ∷ enc_row C l

@@ -1,19 +1,18 @@
 -- An order as its box sees it: the box, how much of the post is used, and the post. What it comes to is the same in every night in
 -- which the box stands at its place.
-use Rattle.std.specs.Prelude.{ℕ, ◌≤◌, ◌<◌, Bool, true, false, List, [], ◌≡◌}
+use Rattle.std.specs.Prelude.{ℕ, ◌≤◌, ◌<◌, Bool, true, false, List, [], ◌≡◌, None}
 use Rattle.house.specs.Limits.{most_boxes, least_tray}
 use Rattle.house.specs.Plan.{plan_sound}
 use Rattle.house.specs.declared.Plan.{Plan}
 use Rattle.house.specs.declared.Order.{Order}
 use Rattle.house.specs.declared.Order.TheVariants.{Post, Stand, Retry, Cut, Carry}
-use Rattle.records.specs.Answers.{not_sound, no_such}
+use Rattle.records.specs.declared.answers.Refusal.TheVariants.{NotSound, NoSuch}
 use Rattle.post.specs.Posting.{most_place, start_of, bytes_from}
 use Rattle.post.specs.Index.{Indexed}
 use Rattle.boxes.specs.Out.{Out, does, guard}
 use Rattle.boxes.specs.Post.{posts}
 use Rattle.boxes.specs.Step.{receives, retried, stood, cut_off}
 use Rattle.boxes.specs.declared.BoxState.{BoxState}
-use Rattle.boxes.specs.declared.Delivery.TheVariants.{Nothing}
 use Rattle.rehearsal.specs.Night.{box_in, whose, exists, if_fits}
 use Rattle.rehearsal.specs.declared.Night.{Night}
 use Rattle.rehearsal.specs.declared.exists.Place.{Place}
@@ -30,7 +29,7 @@ here used = record { boxes = []; used = used }
 
 -- what the box does
 unfoldable pub acts_on : Plan → ℕ → BoxState → List ℕ → Order → Out
-acts_on P used x s (Post j) = does x (posts P j) Nothing
+acts_on P used x s (Post j) = does x (posts P j) None
 acts_on P used x s (Stand p) = stood P x least_tray
 acts_on P used x s (Retry p j) = retried P x j least_tray
 acts_on P used x s (Cut p) = cut_off P x
@@ -38,7 +37,7 @@ acts_on P used x s (Carry k) = receives P x least_tray (bytes_from P s (start_of
 
 -- 1 for the plan, 11, the box's own answers, 12
 abbrev pub alone : Plan → ℕ → BoxState → List ℕ → Order → Out
-alone P used x s o = guard (plan_sound P) not_sound (guard (exists P (here used) s o) no_such (if_fits P (here used) s (acts_on P used x s o)))
+alone P used x s o = guard (plan_sound P) NotSound (guard (exists P (here used) s o) NoSuch (if_fits P (here used) s (acts_on P used x s o)))
 
 -- the record that an order carries begins there
 abbrev pub Starts : Plan → List ℕ → ℕ → Order → ℕ → Type 0

@@ -1,6 +1,6 @@
 -- THE PROMISES of the rehearsal: what an order answers, the night after it and every byte of the post, for every input.
 -- The contracts of src/lib.rt are these names; that no second answer fits is said of them.
-use Rattle.std.specs.Prelude.{ℕ, List, ◌≡◌, length}
+use Rattle.std.specs.Prelude.{ℕ, List, ◌≡◌, length, IfOk}
 use Rattle.house.specs.declared.Plan.{Plan}
 use Rattle.house.specs.declared.Order.{Order}
 use Rattle.records.specs.Answers.{Answered}
@@ -19,7 +19,7 @@ pub record OrderRehearsed (P : Plan) (n : Night) (before : List ℕ) (o : Order)
   -- done, or the number of the refusal
   pub answer : Answered t.answer (was_done (given P n before o)) (number_of (given P n before o))
   -- the records written
-  pub records : t.records ≡ length (records_of (given P n before o))
+  pub records : IfOk t.answer (λ records. records ≡ length (records_of (given P n before o)))
   -- one box changes, and the records' bytes are used; a refusal leaves the night as it is
   pub night : t.night ≡ (turn_of P n (whose P n before o) (given P n before o)).night
   -- the records' bytes stand behind the last record; all others stay

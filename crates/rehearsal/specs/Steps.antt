@@ -1,5 +1,5 @@
 -- An order judged over the box as it is: refused, or done as a step of the box, with the record that the box takes or sends.
-use Rattle.std.specs.Prelude.{ℕ, ◌≤◌, ◌<◌, true, List, [], ◌≡◌, length}
+use Rattle.std.specs.Prelude.{ℕ, ◌≤◌, ◌<◌, true, List, [], ◌≡◌, length, Err, None, Ok, Result}
 use Rattle.house.specs.Limits.{most_jobs, most_number, least_tray}
 use Rattle.house.specs.Plan.{plan_sound}
 use Rattle.house.specs.declared.Plan.{Plan}
@@ -7,8 +7,8 @@ use Rattle.house.specs.declared.Order.{Order}
 use Rattle.house.specs.declared.Order.TheVariants.{Post, Stand, Retry, Cut, Carry}
 use Rattle.records.specs.Bytes.{encode_all}
 use Rattle.records.specs.Rec.{meaning}
-use Rattle.records.specs.declared.Answer.{Answer}
-use Rattle.records.specs.declared.Answer.TheVariants.{Done, No}
+use Rattle.records.specs.Answers.{done}
+use Rattle.records.specs.declared.answers.Refusal.{Refusal}
 use Rattle.records.specs.declared.Record.{Record}
 use Rattle.boxes.specs.Sound.{sound}
 use Rattle.boxes.specs.Out.{Out, refused, does, records_of}
@@ -19,7 +19,6 @@ use Rattle.boxes.specs.Cut.{cut}
 use Rattle.boxes.specs.Promise.{was_done, box_after}
 use Rattle.boxes.specs.Step.{react}
 use Rattle.boxes.specs.declared.BoxState.{BoxState}
-use Rattle.boxes.specs.declared.Delivery.TheVariants.{Nothing}
 use Rattle.steps.specs.Acting.{Acting}
 use Rattle.steps.specs.Judged.{judged}
 use Rattle.rehearsal.specs.Night.{exists, if_fits}
@@ -27,10 +26,10 @@ use Rattle.rehearsal.specs.Alone.{here, alone}
 
 -- the step of an order that nothing refuses; a carry takes the record r
 abbrev pub step_of : Plan → BoxState → Order → Record → Out
-step_of P x (Post j) r = does x (posts P j) Nothing
-step_of P x (Stand p) r = does x (standing P x) Nothing
-step_of P x (Retry p j) r = does x (retries P x j) Nothing
-step_of P x (Cut p) r = does (cut x) [] Nothing
+step_of P x (Post j) r = does x (posts P j) None
+step_of P x (Stand p) r = does x (standing P x) None
+step_of P x (Retry p j) r = does x (retries P x j) None
+step_of P x (Cut p) r = does (cut x) [] None
 step_of P x (Carry k) r = react P x (meaning r)
 
 -- what its code needs: a job's number that is a byte, room for the next ballot's number, or a record that the box may act on
@@ -39,7 +38,7 @@ Can P x (Post j) r = j < most_jobs
 Can P x (Stand p) r = x.core.ballot.number < most_number
 Can P x (Retry p j) r = j < most_jobs
 Can P x (Cut p) r = plan_sound P ≡ true
-Can P x (Carry k) r = Acting P x r least_tray × (judged P x (meaning r) ≡ Done)
+Can P x (Carry k) r = Acting P x r least_tray × (judged P x (meaning r) ≡ done)
 
 -- an order that nothing refuses but a full post
 pub record Goes (P : Plan) (used : ℕ) (x : BoxState) (s : List ℕ) (o : Order) (r : Record) : Type 0 where
@@ -55,7 +54,7 @@ pub record Goes (P : Plan) (used : ℕ) (x : BoxState) (s : List ℕ) (o : Order
   -- a sound box stays sound
   pub stays : sound P x ≡ true → sound P (box_after x (step_of P x o r)) ≡ true
 
--- the answer a, and with it the record r
-pub record Judges (P : Plan) (used : ℕ) (x : BoxState) (s : List ℕ) (o : Order) (a : Answer) (r : Record) : Type 0 where
-  pub refuse : (k : ℕ) → a ≡ No k → alone P used x s o ≡ refused k
-  pub go : a ≡ Done → Goes P used x s o r
+-- the answer a: a refusal, or the record with which the order goes
+pub record Judges (P : Plan) (used : ℕ) (x : BoxState) (s : List ℕ) (o : Order) (a : Result Record Refusal) : Type 0 where
+  pub refuse : (why : Refusal) → a ≡ Err why → alone P used x s o ≡ refused why
+  pub go : (r : Record) → a ≡ Ok r → Goes P used x s o r

@@ -69,7 +69,7 @@ fn find_record(
     let to = post::byte_at(post, start + 3);
     Place {
         at: place_of(to as u32),
-        start: start,
+        start,
         count: far,
     }
 }
@@ -81,7 +81,7 @@ fn find_box(p: u32, count: usize) -> Place
     Place {
         at: place_of(p),
         start: 0,
-        count: count,
+        count,
     }
 }
 
@@ -99,9 +99,9 @@ pub fn find(
     ensures { Found plan fixed used order post.now count result index.new }
 {
     match order {
-        Order::Post(j) => find_box(0, count),
+        Order::Post(_) => find_box(0, count),
         Order::Stand(p) => find_box(p, count),
-        Order::Retry(p, j) => find_box(p, count),
+        Order::Retry(p, _) => find_box(p, count),
         Order::Cut(p) => find_box(p, count),
         Order::Carry(k) => find_record(plan, fixed, used, k, post, index, count),
     }

@@ -3,7 +3,6 @@
 ghost use Rattle.std.specs.Prelude.{◌≡◌, true, List, ℕ, ◌≤◌};
 ghost use Rattle.house.specs.Plan.{plan_sound};
 ghost use Rattle.house.specs.declared.Order.TheVariants.{Stand, Retry, Cut, Carry};
-ghost use Rattle.records.specs.Rec.{no_record};
 ghost use Rattle.boxes.specs.Sound.{sound};
 ghost use Rattle.boxes.specs.Lengths.{Lengths};
 ghost use Rattle.post.specs.Posting.{most_place, start_of};
@@ -14,59 +13,55 @@ ghost use Rattle.rehearsal.specs.Steps.{Judges};
 use crate::exists;
 use boxes::BoxState;
 use house::{Order, Plan};
-use records::Answer;
-use steps::Judged;
-
-// an answer without a record
-fn answered(a: Answer) -> Judged
-    ensures { result ≡ record { rec = no_record; answer = a } }
-{
-    let none = records::no_record();
-    Judged {
-        rec: none,
-        answer: a,
-    }
-}
+use records::{Record, Refusal};
 
 // `stand B`
-fn judge_stand(plan: Plan, known: bool, x: BoxState) -> Judged
+fn judge_stand(plan: Plan, known: bool, x: BoxState) -> Result<Record, Refusal>
     requires { (plan_sound plan ≡ true) × (known ≡ sound plan x) × Lengths x }
-    ensures { (used p : ℕ) (s : List ℕ) → exists plan (here used) s (Stand p) ≡ true → Judges plan used x s (Stand p) result.answer result.rec }
+    ensures { (used p : ℕ) (s : List ℕ) → exists plan (here used) s (Stand p) ≡ true → Judges plan used x s (Stand p) result }
 {
-    if known {} else {
-        return answered(Answer::No(records::NOT_SOUND));
+    if !known {
+        return Err(Refusal::NotSound);
     }
-    answered(leaders::decide_stand(x))
+    leaders::decide_stand(x)?;
+    Ok(records::no_record())
 }
 
 // `retry B J`
-fn judge_retry(plan: Plan, known: bool, x: BoxState, job: u8) -> Judged
+fn judge_retry(plan: Plan, known: bool, x: BoxState, job: u8) -> Result<Record, Refusal>
     requires { (plan_sound plan ≡ true) × (known ≡ sound plan x) × Lengths x }
-    ensures { (used p : ℕ) (s : List ℕ) → exists plan (here used) s (Retry p job) ≡ true → Judges plan used x s (Retry p job) result.answer result.rec }
+    ensures { (used p : ℕ) (s : List ℕ) → exists plan (here used) s (Retry p job) ≡ true → Judges plan used x s (Retry p job) result }
 {
-    if known {} else {
-        return answered(Answer::No(records::NOT_SOUND));
+    if !known {
+        return Err(Refusal::NotSound);
     }
-    answered(jobs::decide_retry(plan, x, job))
+    jobs::decide_retry(plan, x, job)?;
+    Ok(records::no_record())
 }
 
 // `cut B`
-fn judge_cut(known: bool) -> Judged
-    ensures { (P : Plan) (used p : ℕ) (x : BoxState) (s : List ℕ) → plan_sound P ≡ true → known ≡ sound P x → Lengths x → exists P (here used) s (Cut p) ≡ true → Judges P used x s (Cut p) result.answer result.rec }
+fn judge_cut(known: bool) -> Result<Record, Refusal>
+    ensures { (P : Plan) (used p : ℕ) (x : BoxState) (s : List ℕ) → plan_sound P ≡ true → known ≡ sound P x → Lengths x → exists P (here used) s (Cut p) ≡ true → Judges P used x s (Cut p) result }
 {
-    if known {} else {
-        return answered(Answer::No(records::NOT_SOUND));
+    if !known {
+        return Err(Refusal::NotSound);
     }
-    answered(Answer::Done)
+    Ok(records::no_record())
 }
 
 // `carry K`, of which the record begins at `start`, to the box that it is addressed to
-fn judge_carry(plan: Plan, known: bool, x: BoxState, start: usize, post: &[u8]) -> Judged
+fn judge_carry(
+    plan: Plan,
+    known: bool,
+    x: BoxState,
+    start: usize,
+    post: &[u8],
+) -> Result<Record, Refusal>
     requires { (plan_sound plan ≡ true) × (known ≡ sound plan x) × Lengths x × (start ≤ most_place) }
-    ensures { (used k : ℕ) → start ≡ start_of plan post.now used k → exists plan (here used) post.now (Carry k) ≡ true → Judges plan used x post.now (Carry k) result.answer result.rec }
+    ensures { (used k : ℕ) → start ≡ start_of plan post.now used k → exists plan (here used) post.now (Carry k) ≡ true → Judges plan used x post.now (Carry k) result }
 {
-    if known {} else {
-        return answered(Answer::No(records::NOT_SOUND));
+    if !known {
+        return Err(Refusal::NotSound);
     }
     let kind = post::byte_at(post, start + 1);
     let len = records::length_of(plan, kind);
@@ -75,7 +70,7 @@ fn judge_carry(plan: Plan, known: bool, x: BoxState, start: usize, post: &[u8]) 
     steps::judge_bytes(plan, x, &post[from..end])
 }
 
-// 1 for the plan, 11, and the box's own answers
+// 1 for the plan, 11, and the box's own answers; else the record that the box takes, or the one that stands for none
 pub fn judge(
     plan: Plan,
     known: bool,
@@ -84,21 +79,21 @@ pub fn judge(
     order: Order,
     start: usize,
     post: &[u8],
-) -> Judged
+) -> Result<Record, Refusal>
     requires { (known ≡ sound plan x) × Lengths x × (start ≤ most_place) × Starts plan post.now used order start }
-    ensures { Judges plan used x post.now order result.answer result.rec }
+    ensures { Judges plan used x post.now order result }
 {
-    if exists::known_plan(plan, known) {} else {
-        return answered(Answer::No(records::NOT_SOUND));
+    if !exists::known_plan(plan, known) {
+        return Err(Refusal::NotSound);
     }
-    if exists::is_there(plan, used, order, start, post) {} else {
-        return answered(Answer::No(records::NO_SUCH));
+    if !exists::is_there(plan, used, order, start, post) {
+        return Err(Refusal::NoSuch);
     }
     match order {
-        Order::Post(j) => answered(Answer::Done),
-        Order::Stand(p) => judge_stand(plan, known, x),
-        Order::Retry(p, j) => judge_retry(plan, known, x, j as u8),
-        Order::Cut(p) => judge_cut(known),
-        Order::Carry(k) => judge_carry(plan, known, x, start, post),
+        Order::Post(_) => Ok(records::no_record()),
+        Order::Stand(_) => judge_stand(plan, known, x),
+        Order::Retry(_, j) => judge_retry(plan, known, x, j as u8),
+        Order::Cut(_) => judge_cut(known),
+        Order::Carry(_) => judge_carry(plan, known, x, start, post),
     }
 }

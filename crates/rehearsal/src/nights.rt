@@ -10,14 +10,13 @@ ghost use Rattle.rehearsal.specs.Promises.{NightFresh, OrderRehearsed};
 use crate::{Night, exists, judging, settling};
 use boxes::BoxState;
 use house::{BoxNo, Order, Plan};
-use records::{Answer, Record};
+use records::{Record, Refusal};
 
 // done: how many records were written; refused: the number, and the same night
 #[derive(Clone, Copy)]
 pub struct Turn {
     pub night: Night,
-    pub records: u16,
-    pub answer: Answer,
+    pub answer: Result<u16, Refusal>,
 }
 
 fn put_box(night: Night, at: usize, x: BoxState, used: usize) -> Night
@@ -26,18 +25,14 @@ fn put_box(night: Night, at: usize, x: BoxState, used: usize) -> Night
 {
     let mut boxes = night.boxes;
     boxes[at] = x;
-    Night {
-        boxes: boxes,
-        used: used,
-    }
+    Night { boxes, used }
 }
 
 fn box_at(night: Night, at: usize) -> BoxState
     requires { at < most_boxes }
     ensures { result ≡ box_in night at }
 {
-    let boxes = night.boxes;
-    boxes[at]
+    night.boxes[at]
 }
 
 // an order that nothing refuses but a full post, in its night
@@ -48,20 +43,15 @@ fn carry_out(plan: Plan, night: Night, at: usize, order: Order, r: Record, post:
     let x = box_at(night, at);
     let mut tray = [0u8; house::LEAST_TRAY];
     let out = settling::step(plan, x, order, r, &mut tray);
-    let s = settling::settle(night.used, out.used, &tray, post);
-    if s.fits {
-        let y = out.state;
-        let next = put_box(night, at, y, s.used);
-        return Turn {
-            night: next,
-            records: out.records,
-            answer: Answer::Done,
-        };
-    }
-    Turn {
-        night: night,
-        records: 0,
-        answer: Answer::No(records::POST_FULL),
+    match settling::settle(night.used, out.used, &tray, post) {
+        Some(used) => Turn {
+            night: put_box(night, at, out.state, used),
+            answer: Ok(out.records),
+        },
+        None => Turn {
+            night,
+            answer: Err(Refusal::PostFull),
+        },
     }
 }
 
@@ -71,21 +61,14 @@ pub fn rehearse(plan: Plan, night: Night, order: Order, post: &mut [u8]) -> Turn
 {
     let mut index = [0u16; 1];
     let place = exists::find(plan, false, night.used, order, post, &mut index, 0);
-    let at = place.at;
-    let x = box_at(night, at);
+    let x = box_at(night, place.at);
     let known = exists::known_sound(plan, false, x);
-    let j = judging::judge(plan, known, night.used, x, order, place.start, post);
-    let answer = j.answer;
-    match answer {
-        Answer::No(n) => Turn {
-            night: night,
-            records: 0,
-            answer: Answer::No(n),
+    match judging::judge(plan, known, night.used, x, order, place.start, post) {
+        Ok(r) => carry_out(plan, night, place.at, order, r, post),
+        Err(why) => Turn {
+            night,
+            answer: Err(why),
         },
-        Answer::Done => {
-            let r = j.rec;
-            carry_out(plan, night, at, order, r, post)
-        }
     }
 }
 
@@ -93,14 +76,9 @@ pub fn rehearse(plan: Plan, night: Night, order: Order, post: &mut [u8]) -> Turn
 pub fn fresh_night() -> Night
     ensures { NightFresh result }
 {
-    let none = boxes::fresh_box(BoxNo(0));
-    let mut boxes = [none; house::MOST_BOXES];
+    let mut boxes = [boxes::fresh_box(BoxNo(0)); house::MOST_BOXES];
     for at in 0..house::MOST_BOXES {
-        let x = boxes::fresh_box(BoxNo(at as u8));
-        boxes[at] = x;
+        boxes[at] = boxes::fresh_box(BoxNo(at as u8));
     }
-    Night {
-        boxes: boxes,
-        used: 0,
-    }
+    Night { boxes, used: 0 }
 }

@@ -1,6 +1,6 @@
 -- DEMAND 3 of a rehearsal: any orders, any lent post, at every moment, over the boxes and the post's bytes. Its words stand in Words.
 -- The statements are those of the room in_order; nothing is proved here.
-use Rattle.std.specs.Prelude.{ℕ, ◌<◌, true, List, ◌++◌, ◌≡◌}
+use Rattle.std.specs.Prelude.{ℕ, ◌<◌, true, List, ◌++◌, ◌≡◌, Option}
 use Rattle.house.specs.Pairs.{stamp_lt}
 use Rattle.house.specs.declared.Stamp.{Stamp}
 use Rattle.house.specs.declared.Ballot.{Ballot}
@@ -12,7 +12,6 @@ use Rattle.records.specs.Rec.{Rec}
 use Rattle.boxes.specs.Box.{listed_at}
 use Rattle.boxes.specs.Out.{does}
 use Rattle.boxes.specs.declared.BoxState.{BoxState}
-use Rattle.boxes.specs.declared.Delivery.{Delivery}
 use Rattle.in_order.specs.Words.{Rises, Once, SameOrder, ListBegins, Delivered}
 use Rattle.rehearsal.specs.Night.{whose}
 use Rattle.rehearsed.specs.Runs.{answered}
@@ -33,7 +32,7 @@ pub record Demand3 (P : Plan) (lent : List ℕ) : Type 0 where
   -- later orders only append to it,
   pub list_grows : (os later : List Order) (p : ℕ) → p < boxes_of P → ListBegins (box_on (afterwards P lent os) p) (box_on (afterwards P lent (os ++ later)) p)
   -- and what an order delivers is what the list of its box gets
-  pub list_delivers : (os : List Order) (o : Order) (y : BoxState) (l : List Rec) (d : Delivery) → answered P (afterwards P lent os) o ≡ does y l d
+  pub list_delivers : (os : List Order) (o : Order) (y : BoxState) (l : List Rec) (d : Option ℕ) → answered P (afterwards P lent os) o ≡ does y l d
       → Delivered (box_on (afterwards P lent os) (whose P (afterwards P lent os).night (afterwards P lent os).post o)) y d
   -- (3) when a leader p hands out job m with stamp s, to whichever box first, then every job k that names p's district and that ever gets a
   -- final stamp t below s has been handed out in the district before, with that stamp: to all its boxes, by the same leader, in the same ballot

@@ -61,9 +61,7 @@ stage_of w = record { night = w.night; post = w.post }
 -- what the rehearsal's answer to an order is as a line: `ok N` with the records written, or `no N`
 unfoldable pub answer_shown : Plan → Stage → Order → List ℕ
 answer_shown P r o =
-    turn_text
-    (turn_of P r.night (whose P r.night r.post o) (answered P r o)).answer
-    (turn_of P r.night (whose P r.night r.post o) (answered P r o)).records
+    turn_text (turn_of P r.night (whose P r.night r.post o) (answered P r o)).answer
 
 -- the jobs that stand behind `box P list` in the report of a night
 unfoldable pub jobs_shown : Night → ℕ → List ℕ

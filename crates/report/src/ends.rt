@@ -23,9 +23,8 @@ fn put_jobs(list: [u8; house::JOBS], count: usize, t: &mut [u8]) -> usize
     ensures { (result ≤ 256) × (result ≡ length (jobs_text list count)) × (t.new ≡ onto (jobs_text list count) t.old) }
 {
     let mut used = 0;
-    for i in 0..count {
-        let more = text::put_item(list[i], &mut t[used..]);
-        used += more;
+    for job in &list[..count] {
+        used += text::put_item(*job, &mut t[used..]);
     }
     used
 }
@@ -50,24 +49,24 @@ pub fn box_line(number: BoxNo, list: [u8; house::JOBS], count: usize, t: &mut [u
 }
 
 // The time and the district of a stamp, or `- -` where there is none.
-fn put_stamp(committed: bool, stamp: Stamp, t: &mut [u8]) -> usize
+fn put_stamp(committed: Option<Stamp>, t: &mut [u8]) -> usize
     requires { 15 ≤ length t.old }
-    ensures { (result ≤ 15) × (result ≡ length (stamp_text committed stamp.time stamp.district.0)) × (t.new ≡ onto (stamp_text committed stamp.time stamp.district.0) t.old) }
+    ensures { (result ≤ 15) × (result ≡ length (stamp_text committed)) × (t.new ≡ onto (stamp_text committed) t.old) }
 {
-    if committed {
-        let a = text::put(b" ", t);
-        let b = a + text::put_decimal(stamp.time, &mut t[a..]);
-        return b + text::put_item(stamp.district.0, &mut t[b..]);
-    }
-    text::put(b" - -", t)
+    let Some(stamp) = committed else {
+        return text::put(b" - -", t);
+    };
+    let a = text::put(b" ", t);
+    let b = a + text::put_decimal(stamp.time, &mut t[a..]);
+    b + text::put_item(stamp.district.0, &mut t[b..])
 }
 
 // `job K TIME DISTRICT yes` or `no`.
-pub fn job_line(job: u8, committed: bool, stamp: Stamp, finished: bool, t: &mut [u8]) -> usize
+pub fn job_line(job: u8, committed: Option<Stamp>, finished: bool, t: &mut [u8]) -> usize
     requires { job_most ≤ length t.old }
-    ensures { (result ≤ job_most) × (result ≡ length (job_text job committed stamp.time stamp.district.0 finished)) × (t.new ≡ onto (job_text job committed stamp.time stamp.district.0 finished) t.old) }
+    ensures { (result ≤ job_most) × (result ≡ length (job_text job committed finished)) × (t.new ≡ onto (job_text job committed finished) t.old) }
 {
     let a = put_titled(b"job", job, t);
-    let b = a + put_stamp(committed, stamp, &mut t[a..]);
+    let b = a + put_stamp(committed, &mut t[a..]);
     b + text::put_either(finished, b" yes\n", b" no\n", &mut t[b..])
 }

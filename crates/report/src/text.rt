@@ -7,24 +7,22 @@ ghost use Rattle.lines.specs.Numeral.{decimal};
 ghost use Rattle.report.specs.Texts.{item, answer_text, answer_most};
 
 // A copy of the bytes.
+#[tactic(auto, unfolding(laws::specs::Tray::onto))]
 pub fn put(bytes: &[u8], t: &mut [u8]) -> usize
     requires { length bytes.now ≤ length t.old }
     ensures { (result ≡ length bytes.now) × (t.new ≡ onto bytes.now t.old) }
 {
-    let n = bytes.len();
-    t[..n].copy_from_slice(bytes);
-    n
+    t[..bytes.len()].copy_from_slice(bytes);
+    bytes.len()
 }
 
 // One of two texts.
+#[tactic(auto, unfolding(laws::specs::Choice::pick))]
 pub fn put_either(first: bool, a: &[u8], b: &[u8], t: &mut [u8]) -> usize
     requires { (length a.now ≤ length t.old) × (length b.now ≤ length t.old) }
     ensures { (result ≤ max (length a.now) (length b.now)) × (result ≡ length (pick first a.now b.now)) × (t.new ≡ onto (pick first a.now b.now) t.old) }
 {
-    if first {
-        return put(a, t);
-    }
-    put(b, t)
+    put(if first { a } else { b }, t)
 }
 
 // A number in decimal.

@@ -6,54 +6,54 @@ ghost use Rattle.records.specs.Rules.{boxes, neighbours, others, ballot_for, bal
 
 use house::{Ballot, BoxNo, District, Plan};
 
+#[tactic(auto, unfolding(records::specs::Rules::boxes))]
 pub fn both_boxes(plan: Plan, from: BoxNo, to: BoxNo) -> bool
     ensures { result ≡ boxes plan from to }
 {
-    house::is_box(plan, from) & house::is_box(plan, to)
+    house::is_box(plan, from) && house::is_box(plan, to)
 }
 
 // two boxes of one district
+#[tactic(auto, unfolding(records::specs::Rules::neighbours))]
 pub fn are_neighbours(plan: Plan, from: BoxNo, to: BoxNo) -> bool
     ensures { result ≡ neighbours plan from to }
 {
-    both_boxes(plan, from, to) & house::same_home(plan, from, to)
+    both_boxes(plan, from, to) && house::same_home(plan, from, to)
 }
 
 // two different boxes of one district
+#[tactic(auto, unfolding(records::specs::Rules::others))]
 pub fn are_others(plan: Plan, from: BoxNo, to: BoxNo) -> bool
     ensures { result ≡ others plan from to }
 {
-    are_neighbours(plan, from, to) & !(from.0 == to.0)
+    are_neighbours(plan, from, to) && from.0 != to.0
 }
 
 // the ballot of a district, none behind the last
 pub fn ballot_at(ballots: [Ballot; house::DISTRICTS], d: District) -> Ballot
     ensures { result ≡ get_or ballots d.0 no_ballot }
 {
-    if house::MOST_DISTRICTS <= d.0 {
-        return house::no_ballot();
-    }
-    let at = d.0 as usize;
-    ballots[at]
+    ballots
+        .get(d.0 as usize)
+        .copied()
+        .unwrap_or(house::no_ballot())
 }
 
 // of a box of district d if the job names it, none if not
+#[tactic(auto, unfolding(records::specs::Rules::ballot_for, laws::specs::Choice::pick))]
 fn ballot_for(plan: Plan, job: u8, ballots: [Ballot; house::DISTRICTS], d: District) -> bool
     ensures { result ≡ ballot_for plan job ballots d.0 }
 {
     let b = ballot_at(ballots, d);
     if house::named(plan, job, d) {
-        return house::ballot_in(plan, d, b);
+        house::ballot_in(plan, d, b)
+    } else {
+        house::is_no_ballot(b)
     }
-    house::is_no_ballot(b)
 }
 
 pub fn ballots_for(plan: Plan, job: u8, ballots: [Ballot; house::DISTRICTS], n: u8) -> bool
     ensures { result ≡ ballots_for plan job ballots n }
 {
-    let mut ok = true;
-    for d in 0..n {
-        ok = ok & ballot_for(plan, job, ballots, District(d));
-    }
-    ok
+    (0..n).all(|d| ballot_for(plan, job, ballots, District(d)))
 }

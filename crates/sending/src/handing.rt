@@ -28,8 +28,7 @@ fn hand_job(t: &mut [u8], plan: Plan, own: BoxNo, b: Ballot, row: Row, job: u8) 
     ensures { (result.used ≡ length (encode_all plan (delivers_from plan own b row job))) × (result.records ≡ length (delivers_from plan own b row job)) × (t.new ≡ onto (encode_all plan (delivers_from plan own b row job)) t.old) × (result.records ≤ most_boxes) }
 {
     let r = draft::deliver_record(own, own, job, b, row);
-    let meant = house::home_boxes(plan, own);
-    sends::send(t, plan, r, meant)
+    sends::send(t, plan, r, house::home_boxes(plan, own))
 }
 
 // all ready jobs of a box with this core, whatever its volatile part
@@ -37,32 +36,29 @@ pub fn hand_out(t: &mut [u8], plan: Plan, c: Core) -> Handed
     requires { (plan_sound plan ≡ true) × ((v : Volatile) × (length (encode_all plan (hand_out plan (box_of c v)).sent) ≤ length t.old)) }
     ensures { (v : Volatile) → (put_sent (box_of c v) result.sent ≡ (hand_out plan (box_of c v)).box) × (result.used ≡ length (encode_all plan (hand_out plan (box_of c v)).sent)) × (result.records ≡ length (hand_out plan (box_of c v)).sent) × (t.new ≡ onto (encode_all plan (hand_out plan (box_of c v)).sent) t.old) }
 {
-    let table = c.table;
-    let mut sent = c.sent;
+    let Core {
+        own,
+        cballot,
+        table,
+        mut sent,
+        ..
+    } = c;
     let mut used = 0;
-    let mut records: u16 = 0;
+    let mut records = 0;
     let n = plan.jobs as usize;
-    for i in 0..n {
-        let job = ready::next_ready(table, sent, n);
-        if job == house::NO_JOB {
-            return Handed {
-                sent: sent,
-                used: used,
-                records: records,
-            };
-        }
-        let at = job as usize;
-        let row = table[at];
-        let own = c.own;
-        let b = c.cballot;
-        let s = hand_job(&mut t[used..], plan, own, b, row, job);
+    for _ in 0..n {
+        let Some(job) = ready::next_ready(table, sent, n) else {
+            break;
+        };
+        let row = table[job as usize];
+        let s = hand_job(&mut t[used..], plan, own, cballot, row, job);
         used += s.used;
         records += s.records;
-        sent[at] = true;
+        sent[job as usize] = true;
     }
     Handed {
-        sent: sent,
-        used: used,
-        records: records,
+        sent,
+        used,
+        records,
     }
 }

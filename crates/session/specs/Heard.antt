@@ -1,10 +1,10 @@
 -- What the program does with the order of one line: the desk, the night and the post after it, and the text that it prints.
-use Rattle.std.specs.Prelude.{ℕ, Bool, true, false, List, []}
+use Rattle.std.specs.Prelude.{ℕ, Bool, true, false, List, [], Err, Ok, Result}
 use Rattle.laws.specs.Choice.{pick}
 use Rattle.house.specs.declared.Order.{Order}
-use Rattle.records.specs.Answers.{unreadable}
-use Rattle.records.specs.declared.Answer.{Answer}
-use Rattle.records.specs.declared.Answer.TheVariants.{Done, No}
+use Rattle.records.specs.Answers.{refusal_no}
+use Rattle.records.specs.declared.answers.Refusal.{Refusal}
+use Rattle.records.specs.declared.answers.Refusal.TheVariants as Refusals
 use Rattle.rehearsal.specs.declared.Night.{Night}
 use Rattle.rehearsal.specs.declared.nights.Turn.{Turn}
 use Rattle.rehearsal.specs.Night.{whose, given, turn_of, post_of}
@@ -22,13 +22,13 @@ pub record After : Type 0 where
   pub text : List ℕ
 
 -- `ok N`, the records written, or `no N`, the number of the refusal
-abbrev pub turn_text : Answer → ℕ → List ℕ
-turn_text Done n = answer_text false n
-turn_text (No k) n = answer_text true k
+abbrev pub turn_text : Result ℕ Refusal → List ℕ
+turn_text (Ok n) = answer_text false n
+turn_text (Err why) = answer_text true (refusal_no why)
 
 -- a line that is unreadable or misplaced prints `no 3`
 abbrev pub unread : List ℕ
-unread = answer_text true unreadable
+unread = turn_text (Err Refusals.Unreadable)
 
 -- and changes nothing
 abbrev pub passed : Desk → Night → List ℕ → After
@@ -52,7 +52,7 @@ obeyed d n s o =
       desk = fixed_desk d;
       night = (turned d n s o).night;
       post = post_of d.plan n s (given d.plan n s o);
-      text = turn_text (turned d n s o).answer (turned d n s o).records;
+      text = turn_text (turned d n s o).answer;
     }
 
 -- a line, as it was typed

@@ -1,6 +1,5 @@
 -- What the order of a line does to the box that it asks: it is refused, or the box steps, and its records are behind the last if they fit.
-use Rattle.std.specs.Prelude.{ℕ, ◌≤◌, true, List, ◌≡◌, length, set, take}
-use Rattle.laws.specs.Choice.{pick}
+use Rattle.std.specs.Prelude.{ℕ, ◌≤◌, true, List, ◌≡◌, length, set, take, Option, None, Some, is_some}
 use Rattle.laws.specs.Tray.{onto}
 use Rattle.boxes.specs.Sound.{sound}
 use Rattle.boxes.specs.declared.BoxState.{BoxState}
@@ -17,14 +16,15 @@ use Rattle.session.specs.declared.turn.Turned.{Turned}
 
 -- the records of a step are behind the last if they fit, and the order is answered
 pub record Finishes (used more records : ℕ) (tray post before : List ℕ) (r : Finished) (later after : List ℕ) : Type 0 where
-  pub settles : Settles used more tray post (record { used = r.used; fits = r.fits }) later
+  pub settles : Settles used more tray post r.used later
   pub few : r.text ≤ answer_most
-  pub said : r.text ≡ length (settled_text r.fits records)
-  pub printed : after ≡ onto (settled_text r.fits records) before
+  pub said : r.text ≡ length (settled_text (is_some r.used) records)
+  pub printed : after ≡ onto (settled_text (is_some r.used) records) before
 
--- the boxes after a turn of the one at a place
-abbrev pub boxes_after : Turned → ℕ → List BoxState → List BoxState
-boxes_after r at boxes = pick r.new (set boxes at r.state) boxes
+-- the boxes after a turn of the one at a place: its new state, if it has one
+abbrev pub boxes_after : Option BoxState → ℕ → List BoxState → List BoxState
+boxes_after None at boxes = boxes
+boxes_after (Some y) at boxes = set boxes at y
 
 -- the order of a line, and the box x that it asks
 pub record Turns (desk : Desk) (used : ℕ) (x : BoxState) (post : List ℕ) (t : Typed) (r : Turned) (later before after : List ℕ) : Type 0 where
@@ -32,11 +32,11 @@ pub record Turns (desk : Desk) (used : ℕ) (x : BoxState) (post : List ℕ) (t 
   -- in a night in which the box stands at its place
   pub does : (n : Night) (at : ℕ) → Stands desk.plan used x post (ask_of t) n at
       → (text : List ℕ)
-      × (handled desk n post t ≡ record { desk = r.desk; night = record { boxes = boxes_after r at n.boxes; used = r.used }; post = later; text = text })
+      × (handled desk n post t ≡ record { desk = r.desk; night = record { boxes = boxes_after r.state at n.boxes; used = r.used }; post = later; text = text })
       × (r.text ≡ length text) × (after ≡ onto text before)
   -- a box known to be sound is so under a plan that is fixed, and a new one stays so
   pub known : r.known ≡ true → (r.desk.fixed ≡ true) × (sound r.desk.plan x ≡ true)
-  pub stays : r.new ≡ true → sound r.desk.plan x ≡ true → sound r.desk.plan r.state ≡ true
+  pub stays : (y : BoxState) → r.state ≡ Some y → sound r.desk.plan x ≡ true → sound r.desk.plan y ≡ true
   -- a fixed plan stays
   pub fixed : desk.fixed ≡ true → r.desk ≡ desk
   -- the post keeps what is used of it

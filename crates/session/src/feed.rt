@@ -59,8 +59,7 @@ fn feed_into(s: Session, chunk: &[u8], post: &mut [u8], t: &mut [u8]) -> Fed
             used = r.used;
             text += r.text;
             known[at] = r.known;
-            if r.new {
-                let y = r.state;
+            if let Some(y) = r.state {
                 boxes[at] = y;
             }
         }

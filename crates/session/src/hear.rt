@@ -7,24 +7,31 @@ ghost use Rattle.boxes.specs.Sound.{sound};
 ghost use Rattle.post.specs.Posting.{most_place};
 ghost use Rattle.rehearsal.specs.Alone.{Starts};
 ghost use Rattle.report.specs.Texts.{answer_most};
-ghost use Rattle.session.specs.Heard.{unread, plan_line};
+ghost use Rattle.session.specs.Heard.{turn_text, unread, plan_line};
 ghost use Rattle.session.specs.Hears.{ask_of, settled_text, Plain, Obeys, Hears};
 
 use crate::{Desk, draw};
 use boxes::BoxState;
 use house::Order;
 use lines::Typed;
-use records::{Answer, Record};
+use records::{Record, Refusal};
 
-// the desk after a line and how many bytes of text it gave; of an order, whether its box is sound, whether it goes, and the record that the
-// box then takes or sends
+// the desk after a line and how many bytes of text it gave; of an order, whether its box is sound, and, if it goes, the record that the box then
+// takes, or the one that stands for none
 #[derive(Clone, Copy)]
 pub struct Heard {
-    pub rec: Record,
+    pub goes: Option<Record>,
     pub desk: Desk,
     pub text: usize,
     pub known: bool,
-    pub goes: bool,
+}
+
+// a refusal as its line
+fn say_no(why: Refusal, t: &mut [u8]) -> usize
+    requires { answer_most ≤ length t.old }
+    ensures { (result ≤ answer_most) × (result ≡ length (turn_text (Err why))) × (t.new ≡ onto (turn_text (Err why)) t.old) }
+{
+    report::answer_line(true, u8::from(why) as u32, t)
 }
 
 // a line that is unreadable or misplaced
@@ -32,14 +39,12 @@ fn hear_unread(desk: Desk, t: &mut [u8]) -> Heard
     requires { answer_most ≤ length t.old }
     ensures { Plain desk unread result t.old t.new }
 {
-    let text = report::answer_line(true, records::UNREADABLE as u32, t);
-    let none = records::no_record();
+    let text = say_no(Refusal::Unreadable, t);
     Heard {
-        rec: none,
-        desk: desk,
-        text: text,
+        goes: None,
+        desk,
+        text,
         known: false,
-        goes: false,
     }
 }
 
@@ -49,13 +54,11 @@ fn hear_plan(here: bool, desk: Desk, next: Desk, t: &mut [u8]) -> Heard
     ensures { Plain (pick here next desk) (plan_line here) result t.old t.new }
 {
     if here {
-        let none = records::no_record();
         return Heard {
-            rec: none,
+            goes: None,
             desk: next,
             text: 0,
             known: false,
-            goes: false,
         };
     }
     hear_unread(desk, t)
@@ -75,30 +78,24 @@ fn hear_order(
     requires { (answer_most ≤ length t.old) × (known ≡ true → sound desk.plan x ≡ true) × (start ≤ most_place) × Starts desk.plan post.now used order start }
     ensures { Obeys desk used x post.now order result t.old t.new }
 {
-    let plan = desk.plan;
-    let sure = rehearsal::known_sound(plan, known, x);
-    let j = rehearsal::judge(plan, sure, used, x, order, start, post);
-    let answer = j.answer;
-    let r = j.rec;
+    let known = rehearsal::known_sound(desk.plan, known, x);
     let fixed = draw::fix(desk);
-    match answer {
-        Answer::No(n) => {
-            let text = report::answer_line(true, n as u32, t);
-            Heard {
-                rec: r,
-                desk: fixed,
-                text: text,
-                known: sure,
-                goes: false,
-            }
-        }
-        Answer::Done => Heard {
-            rec: r,
+    match rehearsal::judge(desk.plan, known, used, x, order, start, post) {
+        Ok(r) => Heard {
+            goes: Some(r),
             desk: fixed,
             text: 0,
-            known: sure,
-            goes: true,
+            known,
         },
+        Err(why) => {
+            let text = say_no(why, t);
+            Heard {
+                goes: None,
+                desk: fixed,
+                text,
+                known,
+            }
+        }
     }
 }
 
@@ -107,10 +104,8 @@ pub fn order_of(typed: Typed) -> Order
     ensures { result ≡ ask_of typed }
 {
     match typed {
-        Typed::Districts(g) => Order::Post(0),
-        Typed::Job(m) => Order::Post(0),
-        Typed::Given(o) => o,
-        Typed::Unreadable => Order::Post(0),
+        Typed::Given(order) => order,
+        Typed::Districts(_) | Typed::Job(_) | Typed::Unreadable => Order::Post(0),
     }
 }
 
@@ -149,5 +144,5 @@ pub fn say_settled(fits: bool, records: u16, t: &mut [u8]) -> usize
     if fits {
         return report::answer_line(false, records as u32, t);
     }
-    report::answer_line(true, records::POST_FULL as u32, t)
+    say_no(Refusal::PostFull, t)
 }

@@ -37,24 +37,22 @@ pub struct Asked {
     pub ended: bool,
 }
 
-// an order is done: how much of the post is used, how many bytes of text it gave, and whether its records fit
+// an order is done: how much of the post is used, if its records fit, and how many bytes of text it gave
 #[derive(Clone, Copy)]
 struct Finished {
-    used: usize,
+    used: Option<usize>,
     text: usize,
-    fits: bool,
 }
 
-// an order is carried out or refused: the state that its box came to, and whether this is the box's new one; the plan; how much of the post is
-// used, how many bytes of text it gave; and whether the box, as it was, is known to be sound
+// an order is carried out or refused: its box's new state, if it has one; the plan; how much of the post is used, how many bytes of text it
+// gave; and whether the box, as it was, is known to be sound
 #[derive(Clone, Copy)]
 pub struct Turned {
-    pub state: BoxState,
+    pub state: Option<BoxState>,
     pub desk: Desk,
     pub used: usize,
     pub text: usize,
     pub known: bool,
-    pub new: bool,
 }
 
 // the rest of a line, up to its LF or the end of the chunk
@@ -129,13 +127,9 @@ fn finish(
     requires { (more ≤ length tray.now) × (answer_most ≤ length t.old) }
     ensures { Finishes used more records tray.now post.old t.old result post.new t.new }
 {
-    let s = rehearsal::settle(used, more, tray, post);
-    let text = hear::say_settled(s.fits, records, t);
-    Finished {
-        used: s.used,
-        text: text,
-        fits: s.fits,
-    }
+    let used = rehearsal::settle(used, more, tray, post);
+    let text = hear::say_settled(used.is_some(), records, t);
+    Finished { used, text }
 }
 
 // the order of a line and the box that it asks
@@ -153,30 +147,32 @@ pub fn turn(
     ensures { Turns desk used x post.old typed result post.new t.old t.new }
 {
     let h = hear::hear(desk, sure, used, x, typed, start, post, t);
-    let next = h.desk;
-    if h.goes {
-        let mut tray = [0u8; house::LEAST_TRAY];
-        let plan = desk.plan;
-        let r = h.rec;
-        let order = hear::order_of(typed);
-        let out = rehearsal::step(plan, x, order, r, &mut tray);
-        let f = finish(used, out.used, out.records, &tray, post, t);
-        let y = out.state;
+    let Some(r) = h.goes else {
         return Turned {
-            state: y,
-            desk: next,
-            used: f.used,
+            state: None,
+            desk: h.desk,
+            used,
+            text: h.text,
+            known: h.known,
+        };
+    };
+    let mut tray = [0u8; house::LEAST_TRAY];
+    let out = rehearsal::step(desk.plan, x, hear::order_of(typed), r, &mut tray);
+    let f = finish(used, out.used, out.records, &tray, post, t);
+    match f.used {
+        Some(used) => Turned {
+            state: Some(out.state),
+            desk: h.desk,
+            used,
             text: f.text,
             known: h.known,
-            new: f.fits,
-        };
-    }
-    Turned {
-        state: x,
-        desk: next,
-        used: used,
-        text: h.text,
-        known: h.known,
-        new: false,
+        },
+        None => Turned {
+            state: None,
+            desk: h.desk,
+            used,
+            text: f.text,
+            known: h.known,
+        },
     }
 }

@@ -4,67 +4,66 @@ ghost use Rattle.std.specs.Prelude.{◌≡◌};
 ghost use Rattle.boxes.specs.Sound.{range_sound, ballots_sound, table_sound, sent_sound, list_sound};
 ghost use Rattle.soundness.specs.Lists.{entry_sound, place_sound};
 
-use boxes::{BoxState, Listed};
+use boxes::{BoxState, Core, Listed};
 use house::{District, Plan, Stamp};
 
 // how many values a byte has: a flag for each
 const BYTES: usize = 256;
 
+#[tactic(auto, unfolding(boxes::specs::Sound::range_sound))]
 pub fn range_sound(plan: Plan, x: BoxState) -> bool
     ensures { result ≡ range_sound plan x }
 {
-    let c = x.core;
-    let own = c.own;
-    house::is_box(plan, own) & house::time_fits(c.clock)
+    house::is_box(plan, x.core.own) && house::time_fits(x.core.clock)
 }
 
+#[tactic(auto, unfolding(boxes::specs::Sound::ballots_sound))]
 pub fn ballots_sound(plan: Plan, x: BoxState) -> bool
     ensures { result ≡ ballots_sound plan x }
 {
-    let c = x.core;
-    let own = c.own;
-    let status = c.status;
-    let b = c.ballot;
-    let cb = c.cballot;
+    let Core {
+        own,
+        status,
+        ballot,
+        cballot,
+        ..
+    } = x.core;
     let home = house::home_of(plan, own);
-    ((!house::ballot_below(b, cb) & (boxes::is_recovering(status) | house::same_ballot(cb, b)))
-        & (house::none_or_in(plan, home, b) & house::none_or_in(plan, home, cb)))
-        & (!boxes::is_leader(status) | house::ballot_of(own, cb))
+    !house::ballot_below(ballot, cballot)
+        && (boxes::is_recovering(status) || house::same_ballot(cballot, ballot))
+        && house::none_or_in(plan, home, ballot)
+        && house::none_or_in(plan, home, cballot)
+        && (!boxes::is_leader(status) || house::ballot_of(own, cballot))
 }
 
+#[tactic(auto, unfolding(boxes::specs::Sound::table_sound))]
 pub fn table_sound(plan: Plan, x: BoxState) -> bool
     ensures { result ≡ table_sound plan x }
 {
-    let c = x.core;
-    let own = c.own;
-    let table = c.table;
-    let home = house::home_of(plan, own);
-    rules::rows_sound(plan, home, table, plan.jobs) & rules::spare_rows(table, plan.jobs)
+    let home = house::home_of(plan, x.core.own);
+    rules::rows_sound(plan, home, x.core.table, plan.jobs)
+        && rules::spare_rows(x.core.table, plan.jobs)
 }
 
 pub fn sent_sound(plan: Plan, x: BoxState) -> bool
     ensures { result ≡ sent_sound plan x }
 {
-    let c = x.core;
-    let sent = c.sent;
-    let mut ok = true;
-    for j in 0..house::MOST_JOBS {
-        let at = j as usize;
-        ok = ok & (house::is_job(plan, j) | !sent[at]);
-    }
-    ok
+    (0..house::MOST_JOBS).all(|j| house::is_job(plan, j) || !x.core.sent[j as usize])
 }
 
 // an entry behind one of stamp `last`; `again`: its job stands before it too
+#[tactic(auto, unfolding(crate::specs::Lists::entry_sound))]
 fn entry_sound(plan: Plan, home: District, first: bool, last: Stamp, again: bool, e: Listed) -> bool
     ensures { result ≡ entry_sound plan home first last again e }
 {
-    let s = e.stamp;
-    (house::named(plan, e.job, home) & house::stamp_named(plan, e.job, s))
-        & ((first | house::stamp_below(last, s)) & !again)
+    house::named(plan, e.job, home)
+        && house::stamp_named(plan, e.job, e.stamp)
+        && (first || house::stamp_below(last, e.stamp))
+        && !again
 }
 
 // a place of the list, or one behind it
+#[tactic(auto, unfolding(crate::specs::Lists::place_sound, crate::specs::Lists::no_entry, laws::specs::Choice::pick))]
 fn place_sound(
     plan: Plan,
     home: District,
@@ -79,29 +78,24 @@ fn place_sound(
     if listed {
         return entry_sound(plan, home, first, last, again, e);
     }
-    let s = e.stamp;
-    (e.job == 0) & house::is_no_stamp(s)
+    e.job == 0 && house::is_no_stamp(e.stamp)
 }
 
 // one pass: a job is flagged where it is listed, and before the first entry stands the first itself
 pub fn list_sound(plan: Plan, x: BoxState) -> bool
     ensures { result ≡ list_sound plan x }
 {
-    let c = x.core;
-    let own = c.own;
-    let list = c.list;
-    let home = house::home_of(plan, own);
-    let first = list[0];
-    let mut last = first.stamp;
+    let home = house::home_of(plan, x.core.own);
+    let mut last = x.core.list[0].stamp;
     let mut seen = [false; BYTES];
-    let mut ok = true;
-    for i in 0..house::MOST_JOBS {
-        let at = i as usize;
-        let e = list[at];
-        let job = e.job as usize;
-        ok = ok & place_sound(plan, home, i < c.count, i == 0, last, seen[job], e);
-        seen[job] = true;
+    for (i, e) in x.core.list.iter().enumerate() {
+        let listed = i < x.core.count as usize;
+        let again = seen[e.job as usize];
+        if !place_sound(plan, home, listed, i == 0, last, again, *e) {
+            return false;
+        }
+        seen[e.job as usize] = true;
         last = e.stamp;
     }
-    (c.count <= house::MOST_JOBS) & ok
+    x.core.count <= house::MOST_JOBS
 }

@@ -7,22 +7,18 @@ use crate::{core_part, volatile};
 use boxes::BoxState;
 use house::Plan;
 
-// the first tests that fail end it
+// the first test that fails ends it
 #[tactic(auto, unfolding(boxes::specs::Sound::sound, boxes::specs::Sound::box_sound))]
 pub fn is_sound(plan: Plan, x: BoxState) -> bool
     ensures { result ≡ sound plan x }
 {
-    if house::plan_sound(plan) {} else {
-        return false;
-    }
-    if core_part::range_sound(plan, x) & core_part::ballots_sound(plan, x) {} else {
-        return false;
-    }
-    if core_part::table_sound(plan, x) & core_part::sent_sound(plan, x) {} else {
-        return false;
-    }
-    if volatile::kept_sound(plan, x) & volatile::marks_sound(plan, x) {} else {
-        return false;
-    }
-    core_part::list_sound(plan, x) & volatile::vote_sound(plan, x)
+    house::plan_sound(plan)
+        && core_part::range_sound(plan, x)
+        && core_part::ballots_sound(plan, x)
+        && core_part::table_sound(plan, x)
+        && core_part::sent_sound(plan, x)
+        && volatile::kept_sound(plan, x)
+        && volatile::marks_sound(plan, x)
+        && core_part::list_sound(plan, x)
+        && volatile::vote_sound(plan, x)
 }

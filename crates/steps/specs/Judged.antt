@@ -1,9 +1,9 @@
 -- The answer to a record that passed the tests 1 to 5: the first of the tests 6 to 10 that fails, by the record's kind.
+use Rattle.std.specs.Prelude.{Err}
 use Rattle.house.specs.declared.Plan.{Plan}
-use Rattle.records.specs.Answers.{unreadable}
+use Rattle.records.specs.Answers.{Answer}
+use Rattle.records.specs.declared.answers.Refusal.TheVariants.{Unreadable}
 use Rattle.records.specs.Rec.{Rec, multicast, accept, accept_ack, deliver, newleader, newleader_ack, new_state, newstate_ack, unknown}
-use Rattle.records.specs.declared.Answer.{Answer}
-use Rattle.records.specs.declared.Answer.TheVariants.{No}
 use Rattle.boxes.specs.Multicast.{multicast_answer}
 use Rattle.boxes.specs.Accept.{accept_answer}
 use Rattle.boxes.specs.AcceptAck.{accept_ack_answer}
@@ -23,4 +23,4 @@ judged P x (newleader from to b) = newleader_answer x b
 judged P x (newleader_ack from to y) = newleader_ack_answer x from y.ballot
 judged P x (new_state from to y) = new_state_answer x y.ballot
 judged P x (newstate_ack from to b) = newstate_ack_answer x b
-judged P x unknown = No unreadable
+judged P x unknown = Err Unreadable

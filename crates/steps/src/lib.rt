@@ -6,12 +6,4 @@ mod acting;
 mod judging;
 
 pub use acting::act;
-pub use judging::{judge_bytes, judge_read};
-use records::{Answer, Record};
-
-// what a box answers to bytes, and the record that it will act on unless it refuses
-#[derive(Clone, Copy)]
-pub struct Judged {
-    pub rec: Record,
-    pub answer: Answer,
-}
+pub use judging::judge_bytes;

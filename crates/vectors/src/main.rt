@@ -56,8 +56,7 @@ fn show_same(rt: &impl Print, tray: [u8; 4200], n: usize, s: &[u8]) -> io::Resul
 // writes a record that was read from s: whether its bytes are the same, and the tray behind them kept
 fn again(rt: &impl Print, plan: Plan, r: Record, s: &[u8]) -> io::Result<()> {
     let mut tray = filled();
-    let w = writer::write_record(plan, r, &mut tray);
-    let n = w.used;
+    let n = writer::write_record(plan, r, &mut tray).unwrap_or(0);
     show_same(rt, tray, n, s)?;
     show_kept(rt, &tray, n)
 }
@@ -65,12 +64,10 @@ fn again(rt: &impl Print, plan: Plan, r: Record, s: &[u8]) -> io::Result<()> {
 // the reader's answer and record, and the record written again
 fn read(rt: &impl Print, plan: Plan, s: &[u8]) -> io::Result<()> {
     let out = reader::read_record(plan, s);
-    let answer = out.answer;
-    let r = out.rec;
-    showing::show_answer(rt, answer)?;
-    showing::show_record(rt, r)?;
-    if showing::answer_no(answer) == 0 {
-        return again(rt, plan, r, s);
+    showing::show_answer(rt, out.map(|_| ()))?;
+    showing::show_record(rt, out.unwrap_or(records::no_record()))?;
+    if let Ok(r) = out {
+        again(rt, plan, r, s)?;
     }
     Ok(())
 }
@@ -90,10 +87,9 @@ fn write(rt: &impl Print, plan: Plan, r: Record, room: usize) -> io::Result<()> 
     if 4200 < room {
         return Ok(());
     }
-    let w = writer::write_record(plan, r, &mut tray[0..room]);
-    let n = w.used;
-    let answer = w.answer;
-    showing::show_answer(rt, answer)?;
+    let written = writer::write_record(plan, r, &mut tray[0..room]);
+    let n = written.unwrap_or(0);
+    showing::show_answer(rt, written.map(|_| ()))?;
     show_kept(rt, &tray, n)?;
     if 0 < n {
         return show_front(rt, plan, tray, n);

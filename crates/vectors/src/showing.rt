@@ -4,16 +4,9 @@ use house::{Ballot, Row, Stamp};
 use records::{Answer, Record};
 use std::io;
 
-pub fn answer_no(a: Answer) -> u64 {
-    match a {
-        Answer::Done => 0,
-        Answer::No(n) => n as u64,
-    }
-}
-
 // a space, and 0 for done or the number of the refusal
-pub fn show_answer(rt: &impl Print, a: Answer) -> io::Result<()> {
-    let no = answer_no(a);
+pub fn show_answer(rt: &impl Print, answer: Answer) -> io::Result<()> {
+    let no = answer.map_or_else(u8::from, |()| 0);
     print!(rt; " {no}")
 }
 

@@ -1,5 +1,5 @@
 -- All boxes of a plan, and all records ever sent by place, under any list of orders. The post has no limit here.
-use Rattle.std.specs.Prelude.{ℕ, Bool, ◌&&◌, List, [], ◌∷◌, ◌++◌, length, get_or, set, ltb}
+use Rattle.std.specs.Prelude.{ℕ, Bool, ◌&&◌, List, [], ◌∷◌, ◌++◌, length, get_or, set, ltb, None}
 use Rattle.laws.specs.Fold.{upto}
 use Rattle.house.specs.Limits.{least_tray}
 use Rattle.house.specs.Pairs.{box_no}
@@ -7,14 +7,13 @@ use Rattle.house.specs.Plan.{boxes_of, is_job, plan_sound}
 use Rattle.house.specs.declared.Plan.{Plan}
 use Rattle.house.specs.declared.Order.{Order}
 use Rattle.house.specs.declared.Order.TheVariants.{Post, Stand, Retry, Cut, Carry}
-use Rattle.records.specs.Answers.{not_sound, no_such}
+use Rattle.records.specs.declared.answers.Refusal.TheVariants.{NotSound, NoSuch}
 use Rattle.records.specs.Rec.{Rec, unknown, carried, addressee_of}
 use Rattle.boxes.specs.Box.{fresh}
 use Rattle.boxes.specs.Out.{Out, refused, does, guard}
 use Rattle.boxes.specs.Post.{posts}
 use Rattle.boxes.specs.Step.{takes, retried, stood, cut_off}
 use Rattle.boxes.specs.declared.BoxState.{BoxState}
-use Rattle.boxes.specs.declared.Delivery.TheVariants.{Nothing}
 
 pub record World : Type 0 where
   pub boxes : List BoxState
@@ -51,7 +50,7 @@ exists P w (Carry k) = ltb k (length w.post)
 
 -- what the box does: exactly its step, with a tray that is large enough
 unfoldable pub acts : Plan → World → Order → Out
-acts P w (Post j) = does (box_at w 0) (posts P j) Nothing
+acts P w (Post j) = does (box_at w 0) (posts P j) None
 acts P w (Stand p) = stood P (box_at w p) least_tray
 acts P w (Retry p j) = retried P (box_at w p) j least_tray
 acts P w (Cut p) = cut_off P (box_at w p)
@@ -59,7 +58,7 @@ acts P w (Carry k) = takes P (box_at w (addressee_of (record_at w k)).0) least_t
 
 -- 1 for the plan, then 11, then the box's own answers
 unfoldable pub given : Plan → World → Order → Out
-given P w o = guard (plan_sound P) not_sound (guard (exists P w o) no_such (acts P w o))
+given P w o = guard (plan_sound P) NotSound (guard (exists P w o) NoSuch (acts P w o))
 
 -- one box changes, its records are appended; a refusal changes nothing
 abbrev pub finish : World → ℕ → Out → World

@@ -1,2 +1,3 @@
 -- The laws of writer.
 pub mod Sections
+pub mod Whole

@@ -1,4 +1,5 @@
 -- Each kind's and each order's step is its answer, and under it what it does; a test of an answer is a guard.
+use Rattle.std.specs.Prelude.{None, Option, Some}
 use Prim.Native.Nat.{ℕ}
 use mathlib.Core.Bool.{Bool, true, false}
 use mathlib.Core.List.{List, [], ◌∷◌}
@@ -8,13 +9,13 @@ use Rattle.house.specs.declared.BoxNo.{BoxNo}
 use Rattle.house.specs.Plan.{home_of}
 use Rattle.house.specs.declared.Plan.{Plan}
 use Rattle.house.specs.Marks.{marked}
-use Rattle.records.specs.Answers.{or_no}
+use Rattle.records.specs.Answers.{or_no, Answer}
+use Rattle.records.specs.declared.answers.Refusal.{Refusal}
 use Rattle.records.specs.Rec.{Rec, newstate_ack}
 use Rattle.records.specs.declared.Proposal.{Proposal}
 use Rattle.records.specs.declared.Handout.{Handout}
 use Rattle.records.specs.declared.Ballotpaper.{Ballotpaper}
 use Rattle.records.specs.declared.NewState.{NewState}
-use Rattle.records.specs.declared.Answer.{Answer}
 use Rattle.boxes.specs.Box.{own_of, marks_at, put_marks}
 use Rattle.boxes.specs.Out.{Out, does, guard, under}
 use Rattle.boxes.specs.Ready.{hand_out, handing}
@@ -29,24 +30,22 @@ use Rattle.boxes.specs.NewstateAck.{leading, on_newstate_ack, newstate_ack_answe
 use Rattle.boxes.specs.Retry.{retries, retry, retry_answer}
 use Rattle.boxes.specs.Stand.{standing, stand, stand_answer}
 use Rattle.boxes.specs.declared.BoxState.{BoxState}
-use Rattle.boxes.specs.declared.Delivery.{Delivery}
-use Rattle.boxes.specs.declared.Delivery.TheVariants.{Nothing, Job}
 
 -- a test before a step under an answer: its own number comes first
-pub under_or : (t : Bool) (n : ℕ) (a : Answer) (o : Out) → under (or_no t n a) o ≡ guard t n (under a o)
+pub under_or : (t : Bool) (why : Refusal) (a : Answer) (o : Out) → under (or_no t why a) o ≡ guard t why (under a o)
 unfolding guard
-under_or true n a o = refl
-under_or false n a o = refl
+under_or true why a o = refl
+under_or false why a o = refl
 
 -- what is done behind a guard has passed it
-pub guard_does : (t : Bool) (n : ℕ) (o : Out) {x : BoxState} {l : List Rec} {d : Delivery} → guard t n o ≡ does x l d → (t ≡ true) × (o ≡ does x l d)
+pub guard_does : (t : Bool) (why : Refusal) (o : Out) {x : BoxState} {l : List Rec} {d : Option ℕ} → guard t why o ≡ does x l d → (t ≡ true) × (o ≡ does x l d)
 unfolding guard
-guard_does true n o e = (refl, e)
-guard_does false n o e = (cc, cc)
+guard_does true why o e = (refl, e)
+guard_does false why o e = (cc, cc)
 
 module _ (P : Plan) (x : BoxState) where
   pub multicast_is : (j : ℕ) {a : Answer}
-      → multicast_answer P x j ≡ a → on_multicast P x j ≡ under a (does (proposed P x j) (accepts P (proposed P x j) j) Nothing)
+      → multicast_answer P x j ≡ a → on_multicast P x j ≡ under a (does (proposed P x j) (accepts P (proposed P x j) j) None)
   unfolding on_multicast
   multicast_is j e = rw (← e)
 
@@ -61,12 +60,12 @@ module _ (P : Plan) (x : BoxState) where
   accept_ack_is from j bs e = rw (← e)
 
   pub deliver_is : (j : ℕ) (y : Handout) {a : Answer}
-      → deliver_answer P x j y ≡ a → on_deliver P x j y ≡ under a (does (delivered x j y) [] (Job j))
+      → deliver_answer P x j y ≡ a → on_deliver P x j y ≡ under a (does (delivered x j y) [] (Some j))
   unfolding on_deliver
   deliver_is j y e = rw (← e)
 
   pub newleader_is : (from : BoxNo) (b : Ballot) {a : Answer}
-      → newleader_answer x b ≡ a → on_newleader P x from b ≡ under a (does (joined x b) (vote_for P x from b ∷ []) Nothing)
+      → newleader_answer x b ≡ a → on_newleader P x from b ≡ under a (does (joined x b) (vote_for P x from b ∷ []) None)
   unfolding on_newleader
   newleader_is from b e = rw (← e)
 
@@ -76,7 +75,7 @@ module _ (P : Plan) (x : BoxState) where
   newleader_ack_is from y e = rw (← e)
 
   pub new_state_is : (from : BoxNo) (y : NewState) {a : Answer}
-      → new_state_answer x y.ballot ≡ a → on_new_state x from y ≡ under a (does (followed x y) (newstate_ack (own_of x) from y.ballot ∷ []) Nothing)
+      → new_state_answer x y.ballot ≡ a → on_new_state x from y ≡ under a (does (followed x y) (newstate_ack (own_of x) from y.ballot ∷ []) None)
   unfolding on_new_state
   new_state_is from y e = rw (← e)
 
@@ -85,10 +84,10 @@ module _ (P : Plan) (x : BoxState) where
   unfolding on_newstate_ack
   newstate_ack_is b e = rw (← e)
 
-  pub retry_is : (j : ℕ) {a : Answer} → retry_answer P x j ≡ a → retry P x j ≡ under a (does x (retries P x j) Nothing)
+  pub retry_is : (j : ℕ) {a : Answer} → retry_answer P x j ≡ a → retry P x j ≡ under a (does x (retries P x j) None)
   unfolding retry
   retry_is j e = rw (← e)
 
-  pub stand_is : {a : Answer} → stand_answer x ≡ a → stand P x ≡ under a (does x (standing P x) Nothing)
+  pub stand_is : {a : Answer} → stand_answer x ≡ a → stand P x ≡ under a (does x (standing P x) None)
   unfolding stand
   stand_is e = rw (← e)

@@ -1,4 +1,5 @@
 -- Laws of what specs/Promise.antt defines.
+use Rattle.std.specs.Prelude.{None, Option, Some}
 use Prim.Native.Nat.{ℕ}
 use mathlib.Core.List.{List}
 use mathlib.Core.Path.{◌≡◌, refl, sym, ap, ◌∙◌}
@@ -8,18 +9,16 @@ use Rattle.records.proofs.laws.Answers.{one_answer}
 use Rattle.records.specs.Bytes.{encode_all}
 use Rattle.boxes.specs.Out.{Out, refused, does, jobs_in, records_of, result_of}
 use Rattle.boxes.specs.declared.BoxState.{BoxState}
-use Rattle.boxes.specs.declared.Delivery.{Delivery}
-use Rattle.boxes.specs.declared.Delivery.TheVariants.{Nothing, Job}
 use Rattle.boxes.specs.declared.Outcome.{Outcome}
 use Rattle.boxes.specs.Promise.{Says, Stepped}
 
 -- ---- no second outcome fits
 
-one_delivery : (d e : Delivery) → jobs_in d ≡ jobs_in e → d ≡ e
-one_delivery Nothing Nothing h = refl
-one_delivery Nothing (Job k) h = cc
-one_delivery (Job j) Nothing h = cc
-one_delivery (Job j) (Job k) h = let e : j ≡ k = cc in ap Job e
+one_delivery : (d e : Option ℕ) → jobs_in d ≡ jobs_in e → d ≡ e
+one_delivery None None h = refl
+one_delivery None (Some k) h = cc
+one_delivery (Some j) None h = cc
+one_delivery (Some j) (Some k) h = let e : j ≡ k = cc in ap Some e
 
 pub one_outcome : {P : Plan} {x : BoxState} {o : Out} {r q : Outcome} → Says P x o r → Says P x o q → r ≡ q
 one_outcome {r = r} {q} p s =

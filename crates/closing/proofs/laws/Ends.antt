@@ -1,12 +1,8 @@
 -- Laws of what specs/Ends.antt defines.
 use Prim.Native.Nat.{ℕ, ◌+◌, ◌≤◌, ◌<◌}
 use mathlib.Core.List.{List}
-use mathlib.Core.Logic.{◌⊎◌, inl, inr}
-use mathlib.Core.Path.{◌≡◌, refl, ap, ◌∙◌}
-use native.Mathlib.Nat.{eq-or-lt_of_le}
-use native.Mathlib.Omega.{arith}
-use lib.ListN.{length, get_or, set, length-set, get_or-replicate}
-use lib.Seq.{get_or-set_same, get_or-set_other}
+use mathlib.Core.Path.{◌≡◌, refl}
+use lib.ListN.{length, get_or, get_or-replicate}
 use Rattle.laws.proofs.laws.Fold.{upto_step}
 use Rattle.house.specs.Limits.{most_jobs}
 use Rattle.house.specs.Pairs.{box_no}
@@ -20,7 +16,6 @@ use Rattle.closing.specs.Endings.{first_of, first_below, nowhere}
 use Rattle.closing.specs.Holders.{Ended}
 use Rattle.closing.proofs.laws.Holders.{none_yet, one_more}
 use Rattle.closing.proofs.laws.Laws.{with_boxes}
-use Rattle.closing.specs.declared.endings.Committed.{Committed}
 use Rattle.closing.specs.declared.endings.JobEnd.{JobEnd}
 use Rattle.closing.specs.Ends.{no_end, no_ends, end_with, AllEnded, OneMore}
 
@@ -37,7 +32,7 @@ unfolding first_below
 ended_more n j k e l d =
     let h = one_more n j k e.holders l d.holders_are d.none_from in
     record {
-      first_is = rw d.first_is (upto_step (λ (f : Committed) (p : ℕ). first_of f (row_at (box_in n p) j)) nowhere k);
+      first_is = rw d.first_is (upto_step (λ f p. first_of f (row_at (box_in n p) j)) nowhere k);
       holders_are = h.0;
       none_from = h.1;
     }
@@ -53,25 +48,6 @@ pub record Heard (p : BoxNo) (x : BoxState) (l : List JobEnd) (i : ℕ) (m : Lis
   pub long : length m ≡ most_jobs
   pub heard : (j : ℕ) → j < i → get_or m j no_end ≡ end_with (get_or l j no_end) p x j
   pub ahead : (j : ℕ) → i ≤ j → get_or m j no_end ≡ get_or l j no_end
-
-pub heard_none : (p : BoxNo) (x : BoxState) (l : List JobEnd) → length l ≡ most_jobs → Heard p x l 0 l
-heard_none p x l e = record { long = e; heard = λ j h. absurd (omega arith); ahead = λ j h. refl }
-
-pub heard_step : (p : BoxNo) (x : BoxState) (l : List JobEnd) (i : ℕ) (m : List JobEnd) → i < most_jobs → Heard p x l i m
-    → Heard p x l (i + 1) (set m i (end_with (get_or m i no_end) p x i))
-heard_step p x l i m h d =
-    record {
-      long = length-set m i v ∙ d.long;
-      heard = λ j b. go j (eq-or-lt_of_le {n = j} {m = i} (omega arith));
-      ahead = λ j b. get_or-set_other m i j v no_end (λ e. omega arith) ∙ d.ahead j (omega arith);
-    }
-  where
-    v : JobEnd
-    v = end_with (get_or m i no_end) p x i
-
-    go : (j : ℕ) → (j ≡ i) ⊎ (j < i) → get_or (set m i v) j no_end ≡ end_with (get_or l j no_end) p x j
-    go j (inl e) = rw e (get_or-set_same m i v no_end (rw d.long h) ∙ ap (λ (y : JobEnd). end_with y p x i) (d.ahead i (omega arith)))
-    go j (inr b) = get_or-set_other m i j v no_end (λ e. omega arith) ∙ d.heard j b
 
 pub heard_all : (p : BoxNo) (x : BoxState) (l m : List JobEnd) → Heard p x l most_jobs m → OneMore p x l m
 heard_all p x l m d n low e a j h = rw (d.heard j h, ← e) (ended_more n j p.0 (get_or l j no_end) low (a j h))

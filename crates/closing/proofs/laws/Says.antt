@@ -2,10 +2,13 @@
 use Prim.Native.Nat.{ℕ, zero, suc, ◌+◌, ◌*◌, ◌<◌}
 use mathlib.Core.Bool.{true, false, not, ◌||◌}
 use mathlib.Core.Logic.{◌⊎◌, inl, inr, ⊎_elim}
-use mathlib.Core.Path.{◌≡◌, refl, sym, ap, ◌∙◌}
+use mathlib.Core.Path.{◌≡◌, refl, sym, ◌∙◌}
 use native.Mathlib.Nat.{eq-or-lt_of_le}
 use native.Mathlib.Omega.{arith}
-use Rattle.laws.proofs.laws.Choice.{pick_true, pick_false, not_off, look, never, or_other, or_left, or_right, not_of}
+use Rattle.std.specs.Prelude.{Option, Some, None}
+use Rattle.house.specs.declared.Row.{Row}
+use Rattle.house.specs.declared.Stamp.{Stamp}
+use Rattle.laws.proofs.laws.Choice.{pick_cases, not_off, look, or_other, or_left, or_right, not_of}
 use Rattle.laws.proofs.laws.Fold.{all_says, all_is, some_says, some_is}
 use Rattle.house.specs.Pairs.{district, box_no}
 use Rattle.house.specs.Plan.{size_of, home_of, names}
@@ -15,57 +18,43 @@ use Rattle.boxes.specs.Box.{on_list}
 use Rattle.rehearsal.specs.Night.{box_in}
 use Rattle.rehearsal.specs.declared.Night.{Night}
 use Rattle.closing.specs.Endings.{is_committed, first_of, first_below, listed_in, done_in, finished}
-use Rattle.closing.specs.declared.endings.Committed.{Committed}
 use Rattle.closing.specs.Says.{row_of, Lowest}
 
-step_found : (n : Night) (j k : ℕ) → (first_below n j k).found ≡ true → first_below n j (suc k) ≡ first_below n j k
-unfolding first_below first_of
-step_found n j k e = pick_true _ _ e
+-- one box more found nothing: nothing was found before, nor is its row committed
+none_of : (f : Option Stamp) (r : Row) → first_of f r ≡ None → (f ≡ None) × (is_committed r ≡ false)
+unfolding first_of
+none_of (Some stamp) r e = (cc, cc)
+none_of None r e = pick_cases (is_committed r) (Some r.global) None e (λ h q. (refl, cc)) (λ h q. (refl, h))
 
-step_hit : (n : Night) (j k : ℕ) → (first_below n j k).found ≡ false → is_committed (row_of n j k) ≡ true
-    → first_below n j (suc k) ≡ record { found = true; stamp = (row_of n j k).global }
-unfolding first_below first_of
-step_hit n j k e h = pick_false _ _ e ∙ pick_true _ _ h
+-- with one box more a stamp is found: it was before, or its row is committed
+some_of : (f : Option Stamp) (r : Row) {s : Stamp} → first_of f r ≡ Some s → (f ≡ Some s) ⊎ (f ≡ None) × (is_committed r ≡ true) × (Some s ≡ Some r.global)
+unfolding first_of
+some_of (Some stamp) r e = inl e
+some_of None r e = pick_cases (is_committed r) (Some r.global) None e (λ h q. inr (refl, h, sym q)) (λ h q. inl q)
 
-step_miss : (n : Night) (j k : ℕ) → (first_below n j k).found ≡ false → is_committed (row_of n j k) ≡ false → first_below n j (suc k) ≡ first_below n j k
-unfolding first_below first_of
-step_miss n j k e h = pick_false _ _ e ∙ pick_false _ _ h
+step : (n : Night) (j k : ℕ) → first_below n j (suc k) ≡ first_of (first_below n j k) (row_of n j k)
+unfolding first_below
+step n j k = refl
 
 -- none is found: no box below k has it committed
-pub first_none : (n : Night) (j k : ℕ) → (first_below n j k).found ≡ false → (p : ℕ) → p < k → is_committed (row_of n j p) ≡ false
+pub first_none : (n : Night) (j k : ℕ) → first_below n j k ≡ None → (p : ℕ) → p < k → is_committed (row_of n j p) ≡ false
 first_none n j zero e p h = absurd (omega arith)
-first_none n j (suc k) e p h = go (look (first_below n j k).found) (look (is_committed (row_of n j k))) (first_none n j k)
-  where
-    found : {f : Committed} → first_below n j (suc k) ≡ f → f.found ≡ false
-    found {f} q = ap (λ (x : Committed). x.found) (sym q) ∙ e
-
-    go : ((first_below n j k).found ≡ true) ⊎ ((first_below n j k).found ≡ false) → (is_committed (row_of n j k) ≡ true) ⊎ (is_committed (row_of n j k) ≡ false)
-        → ((first_below n j k).found ≡ false → (p : ℕ) → p < k → is_committed (row_of n j p) ≡ false) → is_committed (row_of n j p) ≡ false
-    go (inl t) u r = never t (found (step_found n j k t))
-    go (inr t) (inl u) r = never {t = true} refl (found (step_hit n j k t u))
-    go (inr t) (inr u) r = ⊎_elim (λ q. rw q u) (λ l. r t p l) (eq-or-lt_of_le {n = p} {m = k} (omega arith))
+first_none n j (suc k) e p h =
+    let z = none_of (first_below n j k) (row_of n j k) (sym (step n j k) ∙ e) in
+    ⊎_elim (λ q. rw q z.1) (λ l. first_none n j k z.0 p l) (eq-or-lt_of_le {n = p} {m = k} (omega arith))
 
 -- one is found: it is the lowest, and the stamp is its global stamp there
-pub first_some : (n : Night) (j k : ℕ) → (first_below n j k).found ≡ true → Lowest n j k
+pub first_some : (n : Night) (j k : ℕ) {s : Stamp} → first_below n j k ≡ Some s → Lowest n j k
 unfolding first_below
-first_some n j zero e = never {t = true} refl (sym e)
-first_some n j (suc k) e = go (look (first_below n j k).found) (look (is_committed (row_of n j k))) (first_some n j k)
-  where
-    go : ((first_below n j k).found ≡ true) ⊎ ((first_below n j k).found ≡ false) → (is_committed (row_of n j k) ≡ true) ⊎ (is_committed (row_of n j k) ≡ false)
-        → ((first_below n j k).found ≡ true → Lowest n j k) → Lowest n j (suc k)
-    go (inl t) u r =
-        let z = r t in
-        let b = z.is_box_lem in
-        record {
-          box = z.box;
-          is_box_lem = omega arith;
-          committed = z.committed;
-          stamped = ap (λ (x : Committed). x.stamp) (step_found n j k t) ∙ z.stamped;
-          lowest = z.lowest;
-        }
-    go (inr t) (inl u) r =
-        record { box = k; is_box_lem = omega arith; committed = u; stamped = ap (λ (x : Committed). x.stamp) (step_hit n j k t u); lowest = first_none n j k t }
-    go (inr t) (inr u) r = never (sym (ap (λ (x : Committed). x.found) (step_miss n j k t u)) ∙ e) t
+first_some n j zero e = let z : ◌≡◌ {A = ℕ} 0 1 = cc in absurd (omega arith)
+first_some n j (suc k) {s} e =
+    ⊎_elim
+    (λ q.
+    let z = first_some n j k q in
+    let b = z.is_box_lem in
+    record { box = z.box; is_box_lem = omega arith; committed = z.committed; stamped = e ∙ sym q ∙ z.stamped; lowest = z.lowest })
+    (λ q. record { box = k; is_box_lem = omega arith; committed = q.1; stamped = e ∙ q.2; lowest = first_none n j k q.0 })
+    (some_of (first_below n j k) (row_of n j k) (sym (step n j k) ∙ e))
 
 -- a finished job is on the list of a box in each district that it names
 pub finished_says : (P : Plan) (n : Night) (j k : ℕ) → finished P n j k ≡ true → (d : ℕ) → d < k → names P j (district d) ≡ true

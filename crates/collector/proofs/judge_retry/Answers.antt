@@ -1,14 +1,20 @@
 -- `collector::judge_retry` meets its contract.
+use Rattle.std.proofs.Common.{rules, ◌≡◌, Err}
+use Rattle.boxes.specs.Sound.{sound}
+use Rattle.records.specs.Answers.{done}
+use Rattle.collector.specs.Face.{admission}
 use Rattle.collector.proofs.laws.Face.{retry_no, retry_on}
-use mathlib.Core.Path.{sym, ◌∙◌}
 use Rattle.collector.proofs.judge_retry.Goals as goal
 
-pub returns-in-No : goal.returns-in-No
-returns-in-No c =
+pub returns-in_err-admit : goal.returns-in_err-admit
+returns-in_err-admit c =
     let a = c.args in
-    retry_no a.plan a.x c.requires a.job (sym c.admit-first.ensures ∙ c.in-No.is)
+    let e : admission (sound a.plan a.x) a.room ≡ Err c.in_err-admit.field-0.0 = search rules in
+    let f : c.from_residual.result ≡ Err c.in_err-admit.field-0.0 = search rules in
+    rw f (retry_no a.plan a.x a.job e)
 
 pub returns : goal.returns
 returns c =
     let a = c.args in
-    retry_on a.plan a.x c.requires a.job (sym c.admit-first.ensures ∙ c.in_default.is) c.decide_retry.ensures
+    let e : admission (sound a.plan a.x) a.room ≡ done = search rules in
+    retry_on a.plan a.x a.job e c.decide_retry.ensures

@@ -1,4 +1,9 @@
 -- Laws of what specs/Leaves.antt defines.
+use Rattle.std.specs.Prelude.{Result, Err, Ok, IfOk}
+use Rattle.std.specs.Result.{is_ok}
+use Rattle.laws.proofs.laws.Choice.{never}
+use Rattle.records.specs.declared.answers.Refusal.{Refusal}
+use Rattle.sending.specs.declared.Sent as Counts
 use Prim.Native.Nat.{ℕ, ◌≤◌}
 use mathlib.Core.Bool.{true}
 use mathlib.Core.List.{List}
@@ -16,8 +21,7 @@ use Rattle.house.specs.declared.Plan.{Plan}
 use Rattle.records.specs.Rec.{Rec, carried}
 use Rattle.records.specs.Bytes.{encode_all, shaped, parse}
 use Rattle.records.proofs.laws.Outcome.{read_promised}
-use Rattle.records.specs.declared.Answer.{Answer}
-use Rattle.records.specs.declared.Answer.TheVariants.{Done, No}
+use Rattle.records.specs.Answers.{Answer, done}
 use Rattle.records.proofs.laws.Lengths.{parse_arrays}
 use Rattle.spelling.proofs.laws.Readback.{read_encoded}
 use Rattle.boxes.specs.Sound.{sound}
@@ -35,7 +39,6 @@ use Rattle.stays_sound.proofs.laws.Goods.{Keeps, fits_none}
 use Rattle.stays_sound.proofs.laws.Steps.{takes_every, retried_every, stood_every, cut_off_every, posts_good, posts_fit}
 use Rattle.world.proofs.laws.Boxes.{good_box}
 use Rattle.collector.specs.Promises.{BytesReceived, JobRetried, BoxStood, BoxCut, JobPosted}
-use Rattle.collector.specs.declared.Posted.{Posted}
 use Rattle.collector.specs.Leaves.{Sent, Stays, Face}
 
 -- ---- records
@@ -57,11 +60,11 @@ sent {P} {from} {l} count used before tray s G f c u t =
 
 module _ {P : Plan} {x : BoxState} (s : sound P x ≡ true) (L : Lengths x) where
   good_records : (o : Out) → Every (Keeps P x) o → AllGood P x.core.own (records_of o) × (length (encode_all P (records_of o)) ≤ longest_output)
-  good_records (refused n) no_step = (good_nil, fits_none P)
+  good_records (refused why) no_step = (good_nil, fits_none P)
   good_records (does y l d) (a_step K) = (K.good, K.fits)
 
   box_stays : (o : Out) → Every (Keeps P x) o → Stays P x (box_after x o)
-  box_stays (refused n) no_step = record { is_sound = s; lengths = L; own = refl }
+  box_stays (refused why) no_step = record { is_sound = s; lengths = L; own = refl }
   box_stays (does y l d) (a_step K) = record { is_sound = sound_is P y K.fine.sound; lengths = K.fine.lengths; own = K.same }
 
   said_stays : {o : Out} {r : Outcome} → Every (Keeps P x) o → Says P x o r → Stays P x r.state
@@ -105,15 +108,19 @@ module _ {P : Plan} {x : BoxState} (s : sound P x ≡ true) (L : Lengths x) wher
 -- ---- a post
 
 -- post_job: from the office, under a sound plan
-post_leaves : {P : Plan} {j : ℕ} {before : List ℕ} {p : Posted} {after : List ℕ} → plan_sound P ≡ true → JobPosted P j before p after
-    → Sent P (office_of P) p.records p.used after
-post_leaves {P} {j} {before} {p} {after} s h = go (may_post P j (length before)) refl
+post_leaves : {P : Plan} {j : ℕ} {before : List ℕ} {p : Result Counts.Sent Refusal} {after : List ℕ} → plan_sound P ≡ true → JobPosted P j before p after
+    → IfOk p (λ s. Sent P (office_of P) s.records s.used after)
+post_leaves {P} {j} {before} {p} {after} h posted = go p posted
   where
-    go : (a : Answer) → may_post P j (length before) ≡ a → Sent P (office_of P) p.records p.used after
-    go Done e =
-        sent p.records p.used before after s (posts_good P j s) (posts_fit P j s) (h.records ∙ rw e) (h.used ∙ rw e) (h.tray ∙ rw e)
-    go (No n) e =
-        sent p.records p.used before after s good_nil (fits_none P) (h.records ∙ rw e) (h.used ∙ rw e) (h.tray ∙ rw e)
+    posts_it : (a : Answer) → is_ok a ≡ true → a ≡ done
+    posts_it (Ok u) e = refl
+    posts_it (Err why) e = never e refl
+
+    go : (p : Result Counts.Sent Refusal) → JobPosted P j before p after → IfOk p (λ s. Sent P (office_of P) s.records s.used after)
+    go (Ok s) q =
+        let e = posts_it (may_post P j (length before)) (sym q.answer.done_is) in
+        sent s.records s.used before after h (posts_good P j h) (posts_fit P j h) (q.records ∙ rw e) (q.used ∙ rw e) (q.tray ∙ rw e)
+    go (Err why) q = tt
 
 pub face : (P : Plan) → Face P
 face P =

@@ -1,4 +1,5 @@
 -- Laws of what specs/Unfit.antt defines.
+use Rattle.std.specs.Prelude.{None}
 use Prim.Native.Nat.{ℕ}
 use mathlib.Core.Bool.{true, false}
 use mathlib.Core.List.{List, [], ◌∷◌}
@@ -12,7 +13,8 @@ use Rattle.house.specs.Limits.{least_tray}
 use Rattle.house.specs.Pairs.{box_no, ballot, ballot_lt, ballot_of, real_ballot}
 use Rattle.house.specs.Plan.{size_of, boxes_of, is_box, home_of, plan_sound, counts_sound, masks_sound, mask_sound}
 use Rattle.house.specs.declared.Plan.{Plan}
-use Rattle.records.specs.Answers.{wrong_status, is_done}
+use Rattle.std.specs.Result.{is_ok}
+use Rattle.records.specs.declared.answers.Refusal.TheVariants.{WrongStatus}
 use Rattle.records.specs.Rec.{Rec, newleader, newstate_ack, carried}
 use Rattle.records.proofs.laws.Rec.{meaning_carried}
 use Rattle.records.specs.Rules.{valid}
@@ -26,7 +28,6 @@ use Rattle.boxes.specs.Step.{react, takes, receives}
 use Rattle.boxes.proofs.laws.Promise.{result_is}
 use Rattle.boxes.specs.declared.BoxState.{BoxState}
 use Rattle.boxes.specs.declared.Outcome.{Outcome}
-use Rattle.boxes.specs.declared.Delivery.TheVariants.{Nothing}
 use Rattle.records.proofs.laws.Lengths.{Arrays}
 use Rattle.spelling.proofs.laws.Round.{parse_encode, encode_shaped}
 use Rattle.records.proofs.laws.Obeys.{valid_is}
@@ -72,7 +73,7 @@ call_valid = valid_is plan₁ call plan_is_sound (record { near = record { sende
 
 -- the box joins, and votes
 abbrev pub move : Out
-move = does (joined box₁ (ballot 1 0)) (vote_for plan₁ box₁ (box_no 0) (ballot 1 0) ∷ []) Nothing
+move = does (joined box₁ (ballot 1 0)) (vote_for plan₁ box₁ (box_no 0) (ballot 1 0) ∷ []) None
 
 pub it_moves : receives plan₁ box₁ (length tray₁) (encode plan₁ (carried call)) ≡ move
 unfolding takes guard carried fresh react on_newleader ballot_lt
@@ -96,7 +97,7 @@ answer_valid =
     (record { other = record { near = record { sender = refl; addressee = refl; home = refl }; apart = λ e. omega arith }; its_ballot = refl })
 
 -- a follower takes none: 7
-pub it_refuses : receives plan₁ box₁ (length tray₁) (encode plan₁ (carried answer)) ≡ refused wrong_status
+pub it_refuses : receives plan₁ box₁ (length tray₁) (encode plan₁ (carried answer)) ≡ refused WrongStatus
 unfolding takes guard carried fresh react on_newstate_ack
 it_refuses = received answer (record { ballots = refl; stamps = refl; table = refl }) answer_valid ∙ rw (box_is_sound, answer_valid, meaning_carried answer)
 
@@ -104,22 +105,22 @@ module _ (g : Keeping) where
   moves : g.says plan₁ box₁ (encode plan₁ (carried call)) tray₁ ≡ result_of plan₁ box₁ move
   moves = result_is (g.promised plan₁ box₁ (encode plan₁ (carried call)) tray₁).says ∙ ap (result_of plan₁ box₁) it_moves
 
-  refuses : g.says plan₁ box₁ (encode plan₁ (carried answer)) tray₁ ≡ result_of plan₁ box₁ (refused wrong_status)
+  refuses : g.says plan₁ box₁ (encode plan₁ (carried answer)) tray₁ ≡ result_of plan₁ box₁ (refused WrongStatus)
   refuses = result_is (g.promised plan₁ box₁ (encode plan₁ (carried answer)) tray₁).says ∙ ap (result_of plan₁ box₁) it_refuses
 
   -- not: it refuses everything
-  pub not_always_refusing : ((P : Plan) (x : BoxState) (bytes tray : List ℕ) → is_done (g.says P x bytes tray).answer ≡ false) → ⊥
-  not_always_refusing h = never (ap (λ (o : Outcome). is_done o.answer) moves) (h plan₁ box₁ (encode plan₁ (carried call)) tray₁)
+  pub not_always_refusing : ((P : Plan) (x : BoxState) (bytes tray : List ℕ) → is_ok (g.says P x bytes tray).answer ≡ false) → ⊥
+  not_always_refusing h = never (ap (λ (o : Outcome). is_ok o.answer) moves) (h plan₁ box₁ (encode plan₁ (carried call)) tray₁)
 
   -- not: it takes everything
-  pub not_always_taking : ((P : Plan) (x : BoxState) (bytes tray : List ℕ) → is_done (g.says P x bytes tray).answer ≡ true) → ⊥
-  not_always_taking h = never (h plan₁ box₁ (encode plan₁ (carried answer)) tray₁) (ap (λ (o : Outcome). is_done o.answer) refuses)
+  pub not_always_taking : ((P : Plan) (x : BoxState) (bytes tray : List ℕ) → is_ok (g.says P x bytes tray).answer ≡ true) → ⊥
+  not_always_taking h = never (h plan₁ box₁ (encode plan₁ (carried answer)) tray₁) (ap (λ (o : Outcome). is_ok o.answer) refuses)
 
   -- not: a constant reply
   pub not_constant : (o : Outcome) → ((P : Plan) (x : BoxState) (bytes tray : List ℕ) → g.says P x bytes tray ≡ o) → ⊥
   not_constant o h =
-      let a : is_done o.answer ≡ true = ap (λ (q : Outcome). is_done q.answer) (sym (h plan₁ box₁ (encode plan₁ (carried call)) tray₁) ∙ moves) in
-      let b : is_done o.answer ≡ false = ap (λ (q : Outcome). is_done q.answer) (sym (h plan₁ box₁ (encode plan₁ (carried answer)) tray₁) ∙ refuses) in
+      let a : is_ok o.answer ≡ true = ap (λ (q : Outcome). is_ok q.answer) (sym (h plan₁ box₁ (encode plan₁ (carried call)) tray₁) ∙ moves) in
+      let b : is_ok o.answer ≡ false = ap (λ (q : Outcome). is_ok q.answer) (sym (h plan₁ box₁ (encode plan₁ (carried answer)) tray₁) ∙ refuses) in
       never a b
 
   -- not: the box never changes

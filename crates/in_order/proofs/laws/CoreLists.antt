@@ -1,5 +1,7 @@
 -- A delivered list only grows: an order appends the job it delivers, and changes nothing else of a list.
 -- One law for each kind and order of a box; a test changes nothing of it, so the checks are passed over.
+use Rattle.records.specs.declared.answers.Refusal.{Refusal}
+use Rattle.std.specs.Prelude.{None, Option}
 use Prim.Native.Nat.{ℕ, ◌<◌}
 use mathlib.Core.Bool.{Bool, true, false}
 use mathlib.Core.List.{List, [], ◌∷◌}
@@ -41,46 +43,44 @@ use Rattle.boxes.specs.Cut.{cut}
 use Rattle.boxes.specs.Step.{react, takes, retried, stood, cut_off}
 use Rattle.boxes.proofs.laws.Answers.{under_or}
 use Rattle.boxes.specs.declared.BoxState.{BoxState}
-use Rattle.boxes.specs.declared.Delivery.{Delivery}
-use Rattle.boxes.specs.declared.Delivery.TheVariants.{Nothing}
 use Rattle.world.specs.World.{World, box_at, record_at, whose, acts, given, finish}
 use Rattle.world.specs.World.{step, run}
 use Rattle.in_order.specs.Words.{SameList, Delivered, none, one, ListBegins}
 
 -- an outcome that does something delivers fairly
 pub record Fair (x : BoxState) (a : Out) : Type 0 where
-  pub says : (y : BoxState) (l : List Rec) (d : Delivery) → a ≡ does y l d → Delivered x y d
+  pub says : (y : BoxState) (l : List Rec) (d : Option ℕ) → a ≡ does y l d → Delivered x y d
 
 -- ---- outcomes
 
 -- a refusal does nothing
-fair_refused : {x : BoxState} {n : ℕ} → Fair x (refused n)
-fair_refused {x} {n} = record { says = λ y l d e. absurd (apart e) }
+fair_refused : {x : BoxState} {why : Refusal} → Fair x (refused why)
+fair_refused {x} {why} = record { says = λ y l d e. absurd (apart e) }
   where
-    apart : {y : BoxState} {l : List Rec} {d : Delivery} → refused n ≡ does y l d → ⊥
+    apart : {y : BoxState} {l : List Rec} {d : Option ℕ} → refused why ≡ does y l d → ⊥
     apart e = let z : ◌≡◌ {A = ℕ} 0 1 = cc in omega arith
 
 -- the parts of an outcome
-does_box : {x y : BoxState} {l k : List Rec} {d e : Delivery} → does x l d ≡ does y k e → x ≡ y
+does_box : {x y : BoxState} {l k : List Rec} {d e : Option ℕ} → does x l d ≡ does y k e → x ≡ y
 does_box h = cc
 
-does_delivery : {x y : BoxState} {l k : List Rec} {d e : Delivery} → does x l d ≡ does y k e → d ≡ e
+does_delivery : {x y : BoxState} {l k : List Rec} {d e : Option ℕ} → does x l d ≡ does y k e → d ≡ e
 does_delivery h = cc
 
 -- what is done delivers as its box shows
-fair_does : {x y : BoxState} {l : List Rec} {d : Delivery} → Delivered x y d → Fair x (does y l d)
+fair_does : {x y : BoxState} {l : List Rec} {d : Option ℕ} → Delivered x y d → Fair x (does y l d)
 fair_does {x} {y} {l} {d} D =
-    record { says = λ u k c e. subst (λ (v : BoxState). Delivered x v c) (does_box e) (subst (λ (v : Delivery). Delivered x y v) (does_delivery e) D) }
+    record { says = λ u k c e. subst (λ (v : BoxState). Delivered x v c) (does_box e) (subst (λ (v : Option ℕ). Delivered x y v) (does_delivery e) D) }
 
 -- most steps deliver nothing
-fair_same : {x y : BoxState} {l : List Rec} → SameList x y → Fair x (does y l Nothing)
+fair_same : {x y : BoxState} {l : List Rec} → SameList x y → Fair x (does y l None)
 fair_same S = fair_does (none refl S)
 
 -- a test before it, or a choice, changes nothing of that
-fair_guard : {x : BoxState} (t : Bool) (n : ℕ) {a : Out} → Fair x a → Fair x (guard t n a)
+fair_guard : {x : BoxState} (t : Bool) (why : Refusal) {a : Out} → Fair x a → Fair x (guard t why a)
 unfolding guard
-fair_guard true n F = F
-fair_guard false n F = fair_refused
+fair_guard true why F = F
+fair_guard false why F = fair_refused
 
 fair_pick : {x : BoxState} (t : Bool) {a b : Out} → Fair x a → Fair x b → Fair x (pick t a b)
 fair_pick {x} t F G = pick_both (Fair x) t F G
@@ -90,7 +90,7 @@ same_refl : {x : BoxState} → SameList x x
 same_refl = record { count = refl; list = refl }
 
 -- handing out changes flags alone
-fair_hand : (P : Plan) (x y : BoxState) → SameList x y → Fair x (does (hand_out P y).box (hand_out P y).sent Nothing)
+fair_hand : (P : Plan) (x y : BoxState) → SameList x y → Fair x (does (hand_out P y).box (hand_out P y).sent None)
 unfolding hand_turns hand_next flagged
 fair_hand P x y S =
     fair_same (upto_keeps (λ (h : Handing). SameList x h.box) (λ h i. hand_next P h) (record { box = y; sent = [] }) P.jobs S
@@ -191,7 +191,7 @@ list_trans a b =
     record { longer = omega arith; same = λ i l. b.same i (omega arith) ∙ a.same i l }
 
 -- a delivery only appends
-pub delivered_begins : {x y : BoxState} {d : Delivery} → Delivered x y d → ListBegins x y
+pub delivered_begins : {x y : BoxState} {d : Option ℕ} → Delivered x y d → ListBegins x y
 unfolding listed_at
 delivered_begins (none e S) = let c = S.count in record { longer = omega arith; same = λ i l. rw S.list }
 delivered_begins {x} (one j s e c q) =

@@ -1,5 +1,6 @@
 -- Records that a step sends: which they are, and that one to each box that is meant is among them.
 -- And small laws of guards and of unlike records that the view and the origins use.
+use Rattle.std.specs.Prelude.{Option}
 use Prim.Native.Nat.{ℕ, zero, suc, ◌<◌}
 use mathlib.Core.Bool.{Bool, true}
 use mathlib.Core.List.{List, [], ◌∷◌, ◌++◌}
@@ -19,16 +20,15 @@ use Rattle.house.specs.declared.Plan.{Plan}
 use Rattle.records.specs.Rec.{Rec}
 use Rattle.boxes.specs.Out.{does, to_each}
 use Rattle.boxes.specs.declared.BoxState.{BoxState}
-use Rattle.boxes.specs.declared.Delivery.{Delivery}
 
 -- any goal from two unlike constructors
 pub clash : {A : Type 0} → ◌≡◌ {A = ℕ} 0 1 → A
 clash z = absurd (omega arith)
 
-pub does_box : {a x : BoxState} {b l : List Rec} {c d : Delivery} → does a b c ≡ does x l d → x ≡ a
+pub does_box : {a x : BoxState} {b l : List Rec} {c d : Option ℕ} → does a b c ≡ does x l d → x ≡ a
 does_box e = cc
 
-pub does_sent : {a x : BoxState} {b l : List Rec} {c d : Delivery} → does a b c ≡ does x l d → l ≡ b
+pub does_sent : {a x : BoxState} {b l : List Rec} {c d : Option ℕ} → does a b c ≡ does x l d → l ≡ b
 does_sent e = cc
 
 -- a record sent: to box q, which is meant

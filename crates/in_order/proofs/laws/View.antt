@@ -1,5 +1,8 @@
 -- A step as a move: each guard turned into a fact, once. A constructor takes one record of facts.
 -- A refusal leaves the world as it is; a move changes one box and appends its records.
+use Rattle.records.specs.declared.answers.Refusal.{Refusal}
+use Rattle.std.specs.Prelude.{Option, None}
+use Rattle.records.specs.declared.answers.Refusal.TheVariants.{NotSound, NoSuch}
 use Prim.Native.Nat.{ℕ, ◌<◌}
 use mathlib.Core.Bool.{true, false, not, ◌||◌}
 use mathlib.Core.List.{List, ◌++◌}
@@ -47,7 +50,6 @@ use Rattle.boxes.proofs.laws.Answers.{under_or, guard_does}
 use Rattle.boxes.specs.Retry.{retry}
 use Rattle.boxes.specs.Stand.{stand}
 use Rattle.boxes.specs.declared.BoxState.{BoxState}
-use Rattle.boxes.specs.declared.Delivery.{Delivery}
 use Rattle.world.specs.World.{World, record_at, whose, exists, acts, given, finish, step}
 use Rattle.in_order.proofs.laws.Notions.{the, ballot_at}
 use Rattle.records.proofs.laws.Obeys.{valid_rules}
@@ -59,12 +61,12 @@ use Rattle.in_order.proofs.laws.Moves.{Multicasting, Accepting, Acking, Deliveri
 use Rattle.in_order.proofs.laws.Moves.{m_cut, m_propose, m_again, m_keep, m_accept, m_mark, m_commit, m_deliver, m_join, m_hold, m_merge, m_state}
 use Rattle.in_order.proofs.laws.Moves.{m_lead, Does, next}
 
-no_does : {A : Type 0} {n : ℕ} {x : BoxState} {l : List Rec} {d : Delivery} → refused n ≡ does x l d → A
+no_does : {A : Type 0} {why : Refusal} {x : BoxState} {l : List Rec} {d : Option ℕ} → refused why ≡ does x l d → A
 no_does e = clash (cc)
 
 -- ---- each kind inverted
 
-module _ (P : Plan) (w : World) (from p : BoxNo) (S : SoundBox P (the w p)) {x : BoxState} {l : List Rec} {d : Delivery} where
+module _ (P : Plan) (w : World) (from p : BoxNo) (S : SoundBox P (the w p)) {x : BoxState} {l : List Rec} {d : Option ℕ} where
   multicast_does : (j : ℕ) → p.0 < boxes_of P → on_multicast P (the w p) j ≡ does x l d → Does P w p x l
   unfolding on_multicast proposed
   multicast_does j known e =
@@ -74,7 +76,7 @@ module _ (P : Plan) (w : World) (from p : BoxNo) (S : SoundBox P (the w p)) {x :
       go (record { j = j; sound = S; named = g₁.0; lead = g₂.0 }) refl (look (eqb (row_at (the w p) j).phase 0)) g₃.1
     where
       go : (a : Multicasting P w p) → a.j ≡ j → (eqb (row_at (the w p) j).phase 0 ≡ true) ⊎ (eqb (row_at (the w p) j).phase 0 ≡ false)
-          → does (proposed P (the w p) j) (accepts P (proposed P (the w p) j) j) Rattle.boxes.specs.declared.Delivery.TheVariants.Nothing ≡ does x l d
+          → does (proposed P (the w p) j) (accepts P (proposed P (the w p) j) j) None ≡ does x l d
           → Does P w p x l
       go a ej (inl t) k =
           record
@@ -231,7 +233,7 @@ module _ (P : Plan) (w : World) (from p : BoxNo) (S : SoundBox P (the w p)) {x :
       record { known = F.apart.near.to_box_lem; move = m_lead a; box_is = does_box g₂.1; sent_is = does_sent g₂.1 }
 
 react_does : (P : Plan) (w : World) (r : Rec) → In r w.post → rules P r ≡ true → SoundBox P (the w (addressee_of r))
-    → (x : BoxState) (l : List Rec) (d : Delivery)
+    → (x : BoxState) (l : List Rec) (d : Option ℕ)
     → react P (the w (addressee_of r)) r ≡ does x l d → Does P w (addressee_of r) x l
 unfolding react addressee_of carried
 react_does P w (multicast from to j) i v S x l d e = multicast_does P w from to S j (multicast_says P from to j v) e
@@ -246,7 +248,7 @@ react_does P w unknown i v S x l d e = no_does e
 
 -- ---- each order inverted
 
-takes_does : (P : Plan) (w : World) (r : Rec) → In r w.post → (x : BoxState) (l : List Rec) (d : Delivery)
+takes_does : (P : Plan) (w : World) (r : Rec) → In r w.post → (x : BoxState) (l : List Rec) (d : Option ℕ)
     → takes P (the w (addressee_of r)) least_tray (carried r) ≡ does x l d → Does P w (addressee_of r) x l
 unfolding takes
 takes_does P w r i x l d e =
@@ -256,7 +258,7 @@ takes_does P w r i x l d e =
     let g₄ = guard_does _ _ _ g₃.1 in
     react_does P w r i (valid_rules P r g₃.0) (sound_says P (the w (addressee_of r)) g₁.0) x l d (rw (meaning_carried r) at g₄.1)
 
-acts_does : (P : Plan) (w : World) (o : Order) → plan_sound P ≡ true → exists P w o ≡ true → (x : BoxState) (l : List Rec) (d : Delivery)
+acts_does : (P : Plan) (w : World) (o : Order) → plan_sound P ≡ true → exists P w o ≡ true → (x : BoxState) (l : List Rec) (d : Option ℕ)
     → acts P w o ≡ does x l d
     → Does P w (box_no (whose w o)) x l
 unfolding acts whose exists retried stood cut_off retry stand
@@ -286,8 +288,8 @@ pub view : (P : Plan) (w : World) (o : Order) → View P w (step P w o)
 unfolding step given
 view P w o = go _ refl
   where
-    go : (a : Out) → guard (plan_sound P) 1 (guard (exists P w o) 11 (acts P w o)) ≡ a → View P w (finish w (whose w o) a)
-    go (refused n) e = same refl
+    go : (a : Out) → guard (plan_sound P) NotSound (guard (exists P w o) NoSuch (acts P w o)) ≡ a → View P w (finish w (whose w o) a)
+    go (refused why) e = same refl
     go (does x l d) e =
         let g₁ = guard_does _ _ _ e in
         let g₂ = guard_does _ _ _ g₁.1 in

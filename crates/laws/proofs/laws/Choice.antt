@@ -1,7 +1,9 @@
 -- Laws of what specs/Choice.antt defines.
 use mathlib.Core.Bool.{Bool, true, false, not, ◌&&◌, ◌||◌}
 use mathlib.Core.Path.{◌≡◌, refl}
-use Prim.Native.Nat.{ℕ}
+use Prim.Native.Nat.{ℕ, min}
+use lib.Dec.{ltb}
+use borrow.Author.Tests.{ltb-true, ltb-false}
 use mathlib.Core.Logic.{◌⊎◌, inl, inr}
 use native.Mathlib.Omega.{arith}
 use Rattle.laws.specs.Choice.{pick}
@@ -90,12 +92,6 @@ or_other false b h e = h
 pub not_of : {a : Bool} → a ≡ true → not a ≡ false
 not_of e = rw e
 
--- two tests that imply each other are one
-pub same_test : (a b : Bool) → (a ≡ true → b ≡ true) → (b ≡ true → a ≡ true) → a ≡ b
-same_test true b f g = let h : b ≡ true = f refl in rw h
-same_test false true f g = g refl
-same_test false false f g = refl
-
 -- both parts of a passed test
 pub both : {a b : Bool} → a && b ≡ true → (a ≡ true) × (b ≡ true)
 both {a} {b} h = (and_left a b h, and_right a b h)
@@ -109,3 +105,7 @@ or_if false b f = f refl
 pub not_so : (a : Bool) → (a ≡ true → ⊥) → a ≡ false
 not_so true f = absurd (f refl)
 not_so false f = refl
+
+-- the smaller of two, as a choice
+pub min_pick : (a b : ℕ) → min a b ≡ pick (ltb a b) a b
+min_pick a b = pick_when (λ (n : ℕ). min a b ≡ n) (ltb a b) (λ h. let l = ltb-true a b h in omega arith) (λ h. let l = ltb-false a b h in omega arith)

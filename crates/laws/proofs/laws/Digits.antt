@@ -4,12 +4,12 @@ use mathlib.Core.Bool.{Bool, true, false}
 use mathlib.Core.List.{List, [], ◌∷◌}
 use mathlib.Core.Logic.{◌≢◌}
 use mathlib.Core.Path.{◌≡◌, refl, sym, ap, ◌∙◌}
-use native.Mathlib.Nat.{div-eq_of_lt, div-one, div-div-eq-div-mul, lt_of_lt_of_le, pow-suc, pow-zero, mul_comm, mod-eq_of_lt, zero-mod, zero-div, one-mul}
+use native.Mathlib.Nat.{div-eq_of_lt, div-one, div-div-eq-div-mul, lt_of_lt_of_le, pow-suc, pow-zero, mul_comm, zero-mod, zero-div}
 use native.Mathlib.Nat.{mod-lt}
 use native.Mathlib.Omega.{arith}
 use lib.ListN.{length, get_or}
 use lib.Dec.{eqb, lit<}
-use lib.Pow.{pow_mono, pow_pos, pow-lt, shr-shr, field, mod-mod-pow}
+use lib.Pow.{pow_mono, pow_pos, shr-shr, field, mod-mod-pow}
 use lib.Bits.{bit_or, or_step, or_shr, or_zero_r}
 use lib.Count.{ones, ones_step}
 use borrow.Author.Tests.{eq-eqb}
@@ -47,10 +47,6 @@ part_digit n i k r h =
 pub digit_zero : (i : ℕ) → digit 0 i ≡ false
 unfolding digit
 digit_zero i = rw (zero-div (2 ^ i))
-
--- what a shifted 1 is, as a number of w digits
-pub one_digit : (i w : ℕ) → i < w → 1 * 2 ^ i % 2 ^ w ≡ 2 ^ i
-one_digit i w h = rw one-mul (mod-eq_of_lt (pow-lt h))
 
 -- the digits above the lowest
 digit_suc : (n i : ℕ) → digit n (suc i) ≡ digit (n / 2) i

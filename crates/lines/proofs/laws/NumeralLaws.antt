@@ -4,7 +4,7 @@ use Prim.Native.Nat.{ℕ, zero, suc, ◌+◌, ◌-◌, ◌*◌, ◌/◌, ◌%◌
 use mathlib.Core.Bool.{true, false, not, ◌&&◌}
 use mathlib.Core.List.{List, [], ◌∷◌, ◌++◌, foldl-append}
 use mathlib.Core.Path.{◌≡◌, refl, sym, ◌∙◌, ap}
-use native.Mathlib.Nat.{pow-suc, div-lt_iff_lt-mul}
+use native.Mathlib.Nat.{pow-suc, pow-le-pow_right, div-lt_iff_lt-mul}
 use native.Mathlib.Omega.{arith}
 use lib.ListN.{length, get_or, length-append}
 use lib.Dec.{leb, ltb, eqb, lit<, lit≤}
@@ -26,14 +26,20 @@ unfolding is_number
 number_solid l h = digits_without space l refl (and_right (leb 1 (length l) && leb (length l) 9) (all_digits l) h)
 
 -- each byte of a number is a digit, and there are at most nine
-pub number_digit : (l : List ℕ) (i : ℕ) → is_number l ≡ true → i < length l → is_digit (get_or l i 0) ≡ true
+pub number_digit : (l : List ℕ) (i : ℕ) → is_number l ≡ true → i < length l → (48 ≤ get_or l i 0) × (get_or l i 0 ≤ 57)
 unfolding is_number
-number_digit l i h k = every_at is_digit l i (and_right (leb 1 (length l) && leb (length l) 9) (all_digits l) h) k
+number_digit l i h k =
+    let d = every_at is_digit l i (and_right (leb 1 (length l) && leb (length l) 9) (all_digits l) h) k in
+    (leb-true 48 _ (and_left (leb 48 (get_or l i 0)) (leb (get_or l i 0) 57) d), leb-true _ 57 (and_right (leb 48 (get_or l i 0)) (leb (get_or l i 0) 57) d))
 
 pub number_nine : (l : List ℕ) → is_number l ≡ true → length l ≤ 9
 unfolding is_number
 number_nine l h =
     leb-true (length l) 9 (and_right (leb 1 (length l)) (leb (length l) 9) (and_left (leb 1 (length l) && leb (length l) 9) (all_digits l) h))
+
+-- before each digit there are at most eight
+pub nine_digits : (l : List ℕ) (i : ℕ) → is_number l ≡ true → i < length l → 10 ^ i ≤ 100000000
+nine_digits l i h k = let n = number_nine l h in pow-le-pow_right {n = 10} (lit< tt) {i = i} {j = 8} (omega arith)
 
 -- what holds of one digit, and of the digits of n / 10 with one behind, holds of the digits of n
 in_digits_lem : (Q : List ℕ → Type 0) (f n : ℕ) → (n < 10 → Q ((48 + n) ∷ [])) → (10 ≤ n → Q (in_digits f (n / 10) ++ ((48 + n % 10) ∷ [])))

@@ -1,35 +1,31 @@
 -- A text in parts: what comes before the first byte that parts it, and a text that has none.
 use Prim.Native.Nat.{ℕ, zero, suc, ◌+◌, ◌<◌, ◌≤◌}
-use mathlib.Core.Bool.{Bool, true, false, not, ◌&&◌}
+use mathlib.Core.Bool.{Bool, true, false, not, cond, ◌&&◌}
 use mathlib.Core.List.{List, [], ◌∷◌, ◌++◌}
 use mathlib.Core.Path.{◌≡◌, refl, sym, ◌∙◌, ap}
-use lib.Dec.{eqb}
-use borrow.Author.Tests.{eq-eqb, ne_eqb, eqb-true}
-use Rattle.laws.proofs.laws.Choice.{pick_true, pick_false, and_left, and_right, and_both, not_off, pick_both, same_test, never}
+use lib.Dec.{eqb, ltb}
+use borrow.Author.Tests.{eq-eqb, eqb-true, ltb-true, ltb-false}
+use Rattle.laws.proofs.laws.Choice.{pick_true, pick_false, and_left, and_right, and_both, not_off, pick_both, never}
 use Rattle.lines.specs.Parts.{line_feed, every, in_front, parts, lines, space, same, first_of, words}
 use Rattle.lines.proofs.laws.Parts.{without}
 use native.Mathlib.Numerals.{add-one}
 use native.Mathlib.Omega.{arith}
-use lib.ListN.{length, take, drop, get_or, drop_of_length-le}
-use lib.Seq.{drop-cons, take-suc, take_all, split_at}
+use lib.Pointwise.{pointwise}
+use lib.ListN.{length, take, drop, get_or}
+use lib.Seq.{take_all, split_at}
 use Rattle.laws.specs.Choice.{pick}
-
-and_true : (a : Bool) → a && true ≡ a
-and_true true = refl
-and_true false = refl
-
-and_assoc : (a b c : Bool) → a && (b && c) ≡ (a && b) && c
-and_assoc true b c = refl
-and_assoc false b c = refl
+use Rattle.std.proofs.Math.Bool.{and_assoc, and-true}
+use Rattle.std.specs.Prelude.{Option, Some, None, MatchOption}
+use Rattle.std.specs.List.{list_all, position, position_or_len}
 
 pub every_append : (t : ℕ → Bool) (l m : List ℕ) → every t (l ++ m) ≡ every t l && every t m
 unfolding every
 every_append t [] m = refl
-every_append t (b ∷ l) m = ap (λ (a : Bool). t b && a) (every_append t l m) ∙ and_assoc (t b) (every t l) (every t m)
+every_append t (b ∷ l) m = ap (λ (a : Bool). t b && a) (every_append t l m) ∙ sym (and_assoc (t b) (every t l) (every t m))
 
 pub every_one : (t : ℕ → Bool) (b : ℕ) → every t (b ∷ []) ≡ t b
 unfolding every
-every_one t b = and_true (t b)
+every_one t b = and-true (t b)
 
 -- a byte c parts
 pub parts_cut : (c : ℕ) (last : List (List ℕ)) (l : List ℕ) → parts c last (c ∷ l) ≡ [] ∷ parts c last l
@@ -90,13 +86,19 @@ same_eq [] (y ∷ m) h = never h refl
 same_eq (x ∷ l) [] h = never h refl
 same_eq (x ∷ l) (y ∷ m) h = rw (eqb-true x y (and_left (eqb x y) (same l m) h), same_eq l m (and_right (eqb x y) (same l m) h))
 
--- a test of equality is `same`
-pub same_is : (r : Bool) (l m : List ℕ) → (r ≡ true → l ≡ m) → (l ≡ m → r ≡ true) → r ≡ same l m
-same_is r l m f g = same_test r (same l m) (λ e. ap (same l) (sym (f e)) ∙ same_refl l) (λ e. g (same_eq l m e))
+-- the library's test of equality
+pub same_list : (l m : List ℕ) → pointwise eqb l m ≡ same l m
+unfolding same
+same_list [] [] = refl
+same_list [] (y ∷ m) = refl
+same_list (x ∷ l) [] = refl
+same_list (x ∷ l) (y ∷ m) = ap (λ (a : Bool). eqb x y && a) (same_list l m)
 
--- one byte more that is tested
-pub every_step : (t : ℕ → Bool) (l : List ℕ) (i : ℕ) → i < length l → every t (take i l) && t (get_or l i 0) ≡ every t (take (i + 1) l)
-every_step t l i h = rw (add-one, take-suc l i 0 h, every_append t (take i l) (get_or l i 0 ∷ []), every_one)
+-- the library's test of each byte
+pub every_list : (t : ℕ → Bool) (l : List ℕ) → list_all t l ≡ every t l
+unfolding every
+every_list t [] = refl
+every_list t (b ∷ l) = ap (λ (a : Bool). t b && a) (every_list t l)
 
 pub every_at : (t : ℕ → Bool) (l : List ℕ) (i : ℕ) → every t l ≡ true → i < length l → t (get_or l i 0) ≡ true
 unfolding every
@@ -111,18 +113,15 @@ every_weaker t u [] f h = refl
 every_weaker t u (b ∷ l) f h =
     and_both (u b) (every u l) (f b (and_left (t b) (every t l) h)) (every_weaker t u l f (and_right (t b) (every t l) h))
 
--- the search for the first byte c, place by place
-pub first_here : (c : ℕ) (l : List ℕ) (i : ℕ) → i < length l → get_or l i 0 ≡ c → first_of c (drop i l) ≡ 0
-unfolding first_of
-first_here c l i h e = rw (drop-cons l i 0 h) (pick_true _ _ (eq-eqb _ _ e))
-
-pub first_on : (c : ℕ) (l : List ℕ) (i : ℕ) → i < length l → (get_or l i 0 ≡ c → ⊥) → first_of c (drop i l) ≡ suc (first_of c (drop (i + 1) l))
-unfolding first_of
-first_on c l i h n = rw (add-one, drop-cons l i 0 h) (pick_false _ _ (ne_eqb _ _ n))
-
-pub first_end : (c : ℕ) (l : List ℕ) (i : ℕ) → length l ≤ i → first_of c (drop i l) ≡ 0
-unfolding first_of
-first_end c l i h = rw (drop_of_length-le l {i = i} h)
+-- the library's search for the first byte c
+first_place : (c : ℕ) (l : List ℕ) → position_or_len (λ b. eqb b c) l ≡ first_of c l
+unfolding first_of pick
+first_place c [] = refl
+first_place c (b ∷ l) = go (eqb b c) (first_place c l)
+  where
+    go : (t : Bool) → position_or_len (λ b. eqb b c) l ≡ first_of c l → cond (not t) (1 + position_or_len (λ b. eqb b c) l) 0 ≡ pick t 0 (suc (first_of c l))
+    go true h = refl
+    go false h = rw h (omega arith)
 
 -- a line without a space is one word
 pub words_one : (l : List ℕ) → without space l ≡ true → words l ≡ l ∷ []
@@ -161,6 +160,16 @@ words_cut l k e h =
 -- a line whose first space is nowhere: one word
 pub words_whole : (l : List ℕ) (k : ℕ) → k ≡ first_of space l → length l ≤ k → words l ≡ l ∷ []
 words_whole l k e h = words_one l (ap (without space) (sym (take_all k l h)) ∙ rw e (first_without space l))
+
+-- what the search for the first space answers of a line: where its first word ends, if another stands behind
+pub words_split : (l : List ℕ) {r : Option ℕ} → r ≡ position (λ b. eqb b space) l
+    → MatchOption r (words l ≡ l ∷ []) (λ k. words l ≡ take k l ∷ words (drop (k + 1) l))
+words_split l e = rw e (go (ltb (position_or_len (λ b. eqb b space) l) (length l)) refl)
+  where
+    go : (t : Bool) → ltb (position_or_len (λ b. eqb b space) l) (length l) ≡ t
+        → MatchOption (cond t (Some (position_or_len (λ b. eqb b space) l)) None) (words l ≡ l ∷ []) (λ k. words l ≡ take k l ∷ words (drop (k + 1) l))
+    go true h = words_cut l _ (first_place space l) (ltb-true _ _ h)
+    go false h = words_whole l _ (first_place space l) (ltb-false _ _ h)
 
 -- there is always a word, if only an empty one
 pub words_some : (l : List ℕ) → (p : List ℕ) × (ps : List (List ℕ)) × (words l ≡ p ∷ ps)

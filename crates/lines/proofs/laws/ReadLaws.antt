@@ -1,14 +1,13 @@
 -- The definition of a line's order and the promise of the line reader say the same:
 -- `line_read` and `read_line` lead from one to the other.
-use Prim.Native.Nat.{ℕ, ◌<◌}
+use Prim.Native.Nat.{ℕ}
 use mathlib.Core.Bool.{Bool, true, false, ◌&&◌}
 use mathlib.Core.List.{List, [], ◌∷◌}
 use mathlib.Core.Path.{◌≡◌, refl, sym, ap, ◌∙◌}
 use lib.ListN.{length, take}
 use lib.Dec.{ltb, leb}
-use borrow.Author.Tests.{lt-ltb, ltb-true, ltb-false, le-leb, lt-leb}
+use borrow.Author.Tests.{ltb-true, ltb-false, le-leb, lt-leb}
 use Rattle.laws.specs.Choice.{pick}
-use Rattle.laws.proofs.laws.Choice.{pick_true}
 use Rattle.house.specs.declared.Order.TheVariants.{Retry}
 use Rattle.lines.specs.Parts.{same, words}
 use Rattle.lines.proofs.laws.PartLaws.{same_eq}
@@ -84,11 +83,6 @@ line_read line e = let s = line_says line in record { word = ap order_word e ∙
 -- and nothing else does
 pub read_line : (line : List ℕ) {o : Typed} → LineRead line o → o ≡ order_of_line line
 read_line line r = only_order r (line_read line refl)
-
--- a line of which more bytes have come than a line may have
-pub long_read : (s : LineState) → longest < length (take s.len s.bytes) → HeldRead s Unreadable
-unfolding order_of_line
-long_read s h = line_read (take s.len s.bytes) (sym (pick_true _ _ (lt-ltb longest (length (take s.len s.bytes)) h)))
 
 -- the order held, nothing held and a byte more held, as the one value that the promise allows
 pub held_is : (s : LineState) {o : Typed} → HeldRead s o → o ≡ order_held s

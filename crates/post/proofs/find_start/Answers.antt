@@ -7,19 +7,6 @@ use native.Mathlib.Omega.{arith}
 use mathlib.Core.Path.{◌≡◌, ap, ◌∙◌}
 use Rattle.post.proofs.find_start.Goals as goal
 
-pub returns-then-want-count : goal.returns-then-want-count
-returns-then-want-count c =
-    let if1_taken = c.if-want-count.true in
-    let a = c.args in
-    let asked = c.requires in
-    let f = c.type_inv.index a.k in
-    (asked.starts a.k if1_taken, omega (arith, f))
-
-pub start_from-requires : goal.start_from-requires
-start_from-requires c =
-    let given_2 = c.args in
-    let f = c.type_inv.index given_2.count in omega (arith, f)
-
 pub returns : goal.returns
 returns c =
     let if1_left = c.if-want-count.false in

@@ -1,13 +1,14 @@
 -- Laws of what specs/Index.antt defines.
 use Prim.Native.Nat.{ℕ, zero, suc, ◌+◌, ◌≤◌, ◌<◌}
-use mathlib.Core.List.{List, [], ◌∷◌}
+use mathlib.Core.List.{List}
 use mathlib.Core.Logic.{⊎_elim}
-use mathlib.Core.Path.{◌≡◌, refl, sym, ap, ◌∙◌}
+use mathlib.Core.Path.{◌≡◌, sym, ap, ◌∙◌}
 use native.Mathlib.Nat.{eq-or-lt_of_le}
 use native.Mathlib.Omega.{arith}
 use lib.ListN.{length, take, get_or, set, length-set}
 use lib.Seq.{get_or-set_same, get_or-set_other}
 use borrow.Author.Tests.{lt-ltb}
+use Rattle.std.proofs.lemmas.List.{get_or-take}
 use Rattle.laws.proofs.laws.Choice.{pick_true}
 use Rattle.house.specs.declared.Plan.{Plan}
 use Rattle.records.specs.Bytes.{stamps_at, rows_at, length_of}
@@ -67,13 +68,7 @@ module _ (P : Plan) (s : List ℕ) (used : ℕ) (index : List ℕ) (n : ℕ) (I 
 
 -- a byte of the front
 front_byte : (l k : List ℕ) (n i : ℕ) → take n l ≡ take n k → i < n → get_or l i 0 ≡ get_or k i 0
-front_byte l k n i e h = sym (get_d_take l n i h) ∙ ap (λ (z : List ℕ). get_or z i 0) e ∙ get_d_take k n i h
-  where
-    get_d_take : (l : List ℕ) (n i : ℕ) → i < n → get_or (take n l) i 0 ≡ get_or l i 0
-    get_d_take l zero i h = absurd (omega arith)
-    get_d_take [] (suc n) i h = refl
-    get_d_take (x ∷ l) (suc n) zero h = refl
-    get_d_take (x ∷ l) (suc n) (suc i) h = get_d_take l n i (omega arith)
+front_byte l k n i e h = sym (get_or-take n l i 0 h) ∙ ap (λ (z : List ℕ). get_or z i 0) e ∙ get_or-take n k i 0 h
 
 next_same : (P : Plan) (s t : List ℕ) (u v at : ℕ) → u ≤ v → take u t ≡ take u s → at + 2 ≤ u → next_start P t v at ≡ next_start P s u at
 unfolding next_start length_at

@@ -1,4 +1,4 @@
--- A section read element by element into an array: none at first, then one element more each turn, for any codec of any width.
+-- A section read part by part into an array: none at first, then one part more each turn, for any codec.
 use Prim.Native.Nat.{ℕ, ◌+◌, ◌-◌, ◌*◌, ◌<◌, ◌≤◌}
 use mathlib.Core.List.{List, ◌++◌}
 use mathlib.Core.Path.{◌≡◌, ap, ◌∙◌}
@@ -20,7 +20,7 @@ module _ {A : Type 0} {C : Codec A} {m n : ℕ} {d : A} {s : List ℕ} where
   pub taken_none : {none : A} → n ≤ m → none ≡ d → Taken C m d s n (replicate m none) 0
   taken_none h e = record { upto = omega arith; room = h; filled = rw sub-zero (ap (replicate m) e) }
 
-  -- one element more, by a reader of one element that says so
+  -- one part more
   pub taken_turn : {w i : ℕ} {out : List A} {e : A} → C.w ≡ w → i < n → Taken C m d s n out i
       → e ≡ C.dec (take (length s - i * w) (drop (i * w) s)) → Taken C m d s n (set out i e) (i + 1)
   taken_turn {w} {i} {out} {e} v h t q =
@@ -32,6 +32,6 @@ module _ {A : Type 0} {C : Codec A} {m n : ℕ} {d : A} {s : List ℕ} where
             (fill_step (dec_row C i s) m i d (C.dec (drop (i * C.w) s)) (row_read_length C i s) (omega (arith, t.room)) ∙ rw (read_step C i s));
       }
 
-  -- all elements
+  -- all parts
   pub taken_all : {out : List A} {i : ℕ} → n ≤ i → Taken C m d s n out i → out ≡ dec_row C n s ++ replicate (m - n) d
   taken_all {out} {i} h t = let e : i ≡ n = omega arith in t.filled ∙ rw e

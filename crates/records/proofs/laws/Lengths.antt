@@ -62,11 +62,6 @@ module _ (P : Plan) (r : Record) (sound : plan_sound P ≡ true) (A : Arrays r) 
   unfolding encode length_of
   encode_length = length-append ((head_bytes r ++ ballot_bytes P r) ++ stamp_bytes r) (row_bytes P r) ∙ rw (before_rows, row_bytes_length) (omega arith)
 
-  -- the sum of the sections
-  pub encode_sum : length (encode P r) ≡ 8 + ballots_in P r.kind * 3 + stamps_in r.kind * 5 + rows_in P r.kind * 11
-  unfolding length_of rows_at stamps_at
-  encode_sum = encode_length ∙ omega arith
-
   -- no record has more than 723 bytes, so each fits a tray
   pub encode_most : length (encode P r) ≤ most_record
   encode_most = rw encode_length (length_most P r.kind sound)

@@ -16,7 +16,8 @@ use Rattle.house.proofs.laws.Says.{boxes_most}
 use Rattle.house.specs.declared.Plan.{Plan}
 use Rattle.house.specs.declared.Order.{Order}
 use Rattle.house.specs.declared.Order.TheVariants.{Post, Stand, Retry, Cut, Carry}
-use Rattle.records.specs.Answers.{not_sound, no_such}
+use Rattle.records.specs.declared.answers.Refusal.{Refusal}
+use Rattle.records.specs.declared.answers.Refusal.TheVariants.{NotSound, NoSuch}
 use Rattle.post.specs.Posting.{start_of, to_box}
 use Rattle.post.specs.Index.{Indexed}
 use Rattle.boxes.specs.Box.{fresh}
@@ -60,7 +61,7 @@ found_stands P fixed n s o count r index F =
 
 pub fits_is : (P : Plan) (n : Night) (s : List ℕ) (o : Out) → if_fits P n s o ≡ if_fits P (here n.used) s o
 unfolding fitting
-fits_is P n s (Out.refused k) = refl
+fits_is P n s (Out.refused why) = refl
 fits_is P n s (does x l d) = refl
 
 -- a box in its place acts as it does alone
@@ -72,7 +73,7 @@ acts_is P n at s (Retry p j) e = rw e
 acts_is P n at s (Cut p) e = rw e
 acts_is P n at s (Carry k) e = rw e
 
-under_both : (a b : Bool) (k m : ℕ) (o q : Out) → (a ≡ true → b ≡ true → o ≡ q) → guard a k (guard b m o) ≡ guard a k (guard b m q)
+under_both : (a b : Bool) (k m : Refusal) (o q : Out) → (a ≡ true → b ≡ true → o ≡ q) → guard a k (guard b m o) ≡ guard a k (guard b m q)
 unfolding guard
 under_both true true k m o q f = f refl refl
 under_both true false k m o q f = refl
@@ -87,8 +88,8 @@ alone_is P used x s o n at S =
     let f : (plan_sound P ≡ true) → (exists P n s o ≡ true) → if_fits P n s (acts P n s o) ≡ if_fits P (here used) s (acts_on P used x s o) =
     λ p h. ap (if_fits P n s) (acts_is P n at s o (S.asked p h)) ∙ fits_is P n s (acts_on P n.used (box_in n at) s o)
     ∙ ap (λ (v : ℕ). if_fits P (here v) s (acts_on P v (box_in n at) s o)) u ∙ ap (λ (y : BoxState). if_fits P (here used) s (acts_on P used y s o)) S.box_is in
-    under_both (plan_sound P) (exists P n s o) not_sound no_such (if_fits P n s (acts P n s o)) (if_fits P (here used) s (acts_on P used x s o)) f
-    ∙ ap (λ (b : Bool). guard (plan_sound P) not_sound (guard b no_such (if_fits P (here used) s (acts_on P used x s o)))) e
+    under_both (plan_sound P) (exists P n s o) NotSound NoSuch (if_fits P n s (acts P n s o)) (if_fits P (here used) s (acts_on P used x s o)) f
+    ∙ ap (λ (b : Bool). guard (plan_sound P) NotSound (guard b NoSuch (if_fits P (here used) s (acts_on P used x s o)))) e
 
 -- ---- the places that are found
 

@@ -1,4 +1,5 @@
 -- Laws of what specs/Settled.antt defines.
+use Rattle.std.specs.Prelude.{Err, Ok, Option, is_some, unwrap_or}
 use Prim.Native.Nat.{ℕ, ◌+◌, ◌-◌, ◌≤◌}
 use mathlib.Core.Bool.{true, false, ◌||◌}
 use mathlib.Core.List.{List, ◌++◌}
@@ -15,10 +16,10 @@ use Rattle.laws.proofs.laws.Tray.{onto_nil, onto_front}
 use Rattle.house.specs.Limits.{most_post}
 use Rattle.house.specs.declared.Plan.{Plan}
 use Rattle.house.specs.declared.Order.{Order}
-use Rattle.records.specs.Answers.{post_full}
+use Rattle.records.specs.declared.answers.Refusal.{Refusal}
+use Rattle.records.specs.declared.answers.Refusal.TheVariants.{PostFull}
 use Rattle.records.specs.Bytes.{encode_all}
 use Rattle.records.specs.Rec.{Rec}
-use Rattle.records.specs.declared.Answer.TheVariants.{Done, No}
 use Rattle.records.specs.declared.Record.{Record}
 use Rattle.boxes.specs.Out.{Out, refused, does, result_of, records_of}
 use Rattle.boxes.specs.Promise.{was_done, box_after}
@@ -36,7 +37,6 @@ use Rattle.rehearsal.specs.Alone.{Stands, here, alone}
 use Rattle.rehearsal.proofs.laws.Alone.{alone_is, exists_is}
 use Rattle.rehearsal.specs.Steps.{step_of, Goes}
 use Rattle.rehearsal.specs.declared.Night.{Night}
-use Rattle.rehearsal.specs.declared.settling.Settled.{Settled}
 use Rattle.rehearsal.specs.Settled.{Settles}
 
 pub room_few : (s : List ℕ) → room_of s ≤ most_post
@@ -44,17 +44,17 @@ unfolding room_of
 room_few s = pick_when (λ n. n ≤ most_post) (ltb (length s) most_post) (λ h. let l = ltb-true (length s) most_post h in omega arith) (λ h. omega arith)
 
 -- a refusal leaves the post as it is
-pub post_same : (P : Plan) (n : Night) (s : List ℕ) (k : ℕ) → post_of P n s (refused k) ≡ s
-post_same P n s k = rw (encode_none P, onto_nil (drop n.used s)) (take-append-drop n.used s)
+pub post_same : (P : Plan) (n : Night) (s : List ℕ) (why : Refusal) → post_of P n s (refused why) ≡ s
+post_same P n s why = rw (encode_none P, onto_nil (drop n.used s)) (take-append-drop n.used s)
 
 -- no byte behind what is used
 pub none_behind : (s tray : List ℕ) (used more : ℕ) → more ≡ 0 → s ≡ take used s ++ onto (take more tray) (drop used s)
 none_behind s tray used more e = rw (e, onto_nil (drop used s)) (sym (take-append-drop used s))
 
 -- a refused order
-pub rehearsed_no : {P : Plan} {n : Night} {s : List ℕ} {o : Order} (k : ℕ) → given P n s o ≡ refused k
-    → OrderRehearsed P n s o (record { night = n; records = 0; answer = No k }) s
-rehearsed_no {P} {n} {s} {o} k e = order_rehearsed (rw e) (rw e (sym (post_same P n s k)))
+pub rehearsed_no : {P : Plan} {n : Night} {s : List ℕ} {o : Order} (why : Refusal) → given P n s o ≡ refused why
+    → OrderRehearsed P n s o (record { night = n; answer = Err why }) s
+rehearsed_no {P} {n} {s} {o} why e = order_rehearsed (rw e) (rw e (sym (post_same P n s why)))
 
 -- ---- what a step wrote stands at the front of its tray
 
@@ -63,7 +63,7 @@ unfolding onto
 onto_long bs t = rw (length-append, length-drop)
 
 result_used : (P : Plan) (x : BoxState) (o : Out) → (result_of P x o).used ≡ length (encode_all P (records_of o))
-result_used P x (refused k) = rw (encode_none P)
+result_used P x (refused why) = rw (encode_none P)
 result_used P x (does y l d) = refl
 
 pub wrote : (P : Plan) (x : BoxState) (o : Out) (t l : List ℕ) (out : Outcome) → out ≡ result_of P x o → l ≡ onto (encode_all P (records_of o)) t
@@ -79,11 +79,11 @@ wrote P x o t l out e w k =
 -- ---- a step that is done, as an outcome
 
 done_does : (P : Plan) (x : BoxState) (o : Out) → was_done o ≡ true → o ≡ does (result_of P x o).state (records_of o) (result_of P x o).delivery
-done_does P x (refused k) e = let z : ◌≡◌ {A = ℕ} 0 1 = cc in absurd (omega arith)
+done_does P x (refused why) e = let z : ◌≡◌ {A = ℕ} 0 1 = cc in absurd (omega arith)
 done_does P x (does y l d) e = refl
 
 done_records : (P : Plan) (x : BoxState) (o : Out) → was_done o ≡ true → (result_of P x o).records ≡ length (records_of o)
-done_records P x (refused k) e = let z : ◌≡◌ {A = ℕ} 0 1 = cc in absurd (omega arith)
+done_records P x (refused why) e = let z : ◌≡◌ {A = ℕ} 0 1 = cc in absurd (omega arith)
 done_records P x (does y l d) e = refl
 
 module _ {P : Plan} {used : ℕ} {x : BoxState} {s : List ℕ} {o : Order} {r : Record} (G : Goes P used x s o r) (out : Outcome)
@@ -105,58 +105,58 @@ module _ {P : Plan} {used : ℕ} {x : BoxState} {s : List ℕ} {o : Order} {r : 
   unfolding fitting
   alone_does h =
       let t : (eqb (length (encode_all P sent)) 0 || leb (used + length (encode_all P sent)) (room_of s)) ≡ true = rw (← step_used) h in
-      G.is ∙ ap (if_fits P (here used) s) step_is ∙ guard_on post_full (does out.state sent out.delivery) t
+      G.is ∙ ap (if_fits P (here used) s) step_is ∙ guard_on PostFull (does out.state sent out.delivery) t
 
   -- or the post is full
-  alone_full : (eqb out.used 0 || leb (used + out.used) (room_of s)) ≡ false → alone P used x s o ≡ refused post_full
+  alone_full : (eqb out.used 0 || leb (used + out.used) (room_of s)) ≡ false → alone P used x s o ≡ refused PostFull
   unfolding fitting
   alone_full h =
       let t : (eqb (length (encode_all P sent)) 0 || leb (used + length (encode_all P sent)) (room_of s)) ≡ false = rw (← step_used) h in
-      G.is ∙ ap (if_fits P (here used) s) step_is ∙ guard_off post_full (does out.state sent out.delivery) t
+      G.is ∙ ap (if_fits P (here used) s) step_is ∙ guard_off PostFull (does out.state sent out.delivery) t
 
   -- what it comes to in a night in which the box stands at its place
-  module _ (n : Night) (at : ℕ) (T : Stands P used x s o n at) (tray after : List ℕ) (front : take out.used tray ≡ encode_all P sent) (v : Settled)
+  module _ (n : Night) (at : ℕ) (T : Stands P used x s o n at) (tray after : List ℕ) (front : take out.used tray ≡ encode_all P sent) (v : Option ℕ)
       (S : Settles used out.used tray s v after) where
     given_is : given P n s o ≡ alone P used x s o
     given_is = alone_is P used x s o n at T
 
-    pub turned_does : v.fits ≡ true
+    pub turned_does : is_some v ≡ true
         →
         OrderRehearsed
         P
         n
         s
         o
-        (record { night = record { boxes = set n.boxes at out.state; used = v.used }; records = out.records; answer = Done })
+        (record { night = record { boxes = set n.boxes at out.state; used = unwrap_or v used }; answer = Ok out.records })
         after
     turned_does h =
         let f : given P n s o ≡ does out.state sent out.delivery = given_is ∙ alone_does (sym S.fits_is ∙ h) in
         let w : at ≡ whose P n s o = T.asked G.plan_is_sound (exists_is P n s o ∙ ap (λ (u : ℕ). exists P (here u) s o) T.used_is ∙ G.there) in
-        let u : v.used ≡ n.used + length (encode_all P sent) = S.used_is ∙ pick_true (used + out.used) used h ∙ rw (step_used, T.used_is) in
+        let u : unwrap_or v used ≡ n.used + length (encode_all P sent) = S.used_is ∙ pick_true (used + out.used) used h ∙ rw (step_used, T.used_is) in
         let a : after ≡ take n.used s ++ onto (encode_all P sent) (drop n.used s) =
         S.post_is ∙ pick_true (take used s ++ onto (take out.used tray) (drop used s)) s h ∙ rw (front, T.used_is) in
         order_rehearsed (rw (f, ← w, records_is, u)) (rw f a)
 
-    pub turned_full : v.fits ≡ false → OrderRehearsed P n s o (record { night = n; records = 0; answer = No post_full }) after
+    pub turned_full : is_some v ≡ false → OrderRehearsed P n s o (record { night = n; answer = Err PostFull }) after
     turned_full h =
         let a : after ≡ s = S.post_is ∙ pick_false (take used s ++ onto (take out.used tray) (drop used s)) s h in
-        rw a (rehearsed_no post_full (given_is ∙ alone_full (sym S.fits_is ∙ h)))
+        rw a (rehearsed_no PostFull (given_is ∙ alone_full (sym S.fits_is ∙ h)))
 
 -- ---- the post keeps what is used of it, and no less is used
 
-pub settles_more : {used more : ℕ} {tray s : List ℕ} {v : Settled} {after : List ℕ} → Settles used more tray s v after → used ≤ v.used
-settles_more {used} {more} {v = v} S = rw S.used_is (pick_both (λ (n : ℕ). used ≤ n) v.fits (omega arith) (omega arith))
+pub settles_more : {used more : ℕ} {tray s : List ℕ} {v : Option ℕ} {after : List ℕ} → Settles used more tray s v after → used ≤ unwrap_or v used
+settles_more {used} {more} {v = v} S = rw S.used_is (pick_both (λ (n : ℕ). used ≤ n) (is_some v) (omega arith) (omega arith))
 
 take_front : (s bs : List ℕ) (n : ℕ) → n ≤ length s → take n (take n s ++ bs) ≡ take n s
 take_front s bs n h = take_at (take n s) bs n (length-take-le n s h)
 
-pub settles_front : {used more : ℕ} {tray s : List ℕ} {v : Settled} {after : List ℕ} → Settles used more tray s v after → take used after ≡ take used s
-settles_front {used} {more} {tray} {s} {v} {after} S = go (look v.fits) (look (eqb more 0))
+pub settles_front : {used more : ℕ} {tray s : List ℕ} {v : Option ℕ} {after : List ℕ} → Settles used more tray s v after → take used after ≡ take used s
+settles_front {used} {more} {tray} {s} {v} {after} S = go (look (is_some v)) (look (eqb more 0))
   where
     put : List ℕ
     put = take used s ++ onto (take more tray) (drop used s)
 
-    go : (v.fits ≡ true) ⊎ (v.fits ≡ false) → (eqb more 0 ≡ true) ⊎ (eqb more 0 ≡ false) → take used after ≡ take used s
+    go : (is_some v ≡ true) ⊎ (is_some v ≡ false) → (eqb more 0 ≡ true) ⊎ (eqb more 0 ≡ false) → take used after ≡ take used s
     go (inr f) m = ap (take used) (S.post_is ∙ pick_false put s f)
     go (inl f) (inl z) = ap (take used) (S.post_is ∙ pick_true put s f ∙ sym (none_behind s tray used more (eqb-true more 0 z)))
     go (inl f) (inr z) =
@@ -170,5 +170,5 @@ pub after_state : (P : Plan) (x : BoxState) (o : Out) {out : Outcome} → out �
 after_state P x o e = ap (λ (q : Outcome). q.state) e ∙ state_of_lem o
   where
     state_of_lem : (o : Out) → (result_of P x o).state ≡ box_after x o
-    state_of_lem (refused k) = refl
+    state_of_lem (refused why) = refl
     state_of_lem (does y l d) = refl

@@ -1,8 +1,9 @@
 -- Laws of what specs/Steps.antt defines.
+use Rattle.std.specs.Prelude.{Result, Err, Ok}
 use Prim.Native.Nat.{ℕ, ◌+◌, ◌-◌, ◌≤◌, ◌<◌}
 use mathlib.Core.Bool.{true, false}
 use mathlib.Core.List.{List}
-use mathlib.Core.Path.{◌≡◌, refl, ap, ◌∙◌}
+use mathlib.Core.Path.{◌≡◌, refl, sym, ap, subst, ◌∙◌}
 use native.Mathlib.Omega.{arith}
 use lib.ListN.{length, take, drop, get_or}
 use lib.Dec.{ltb}
@@ -15,13 +16,14 @@ use Rattle.house.proofs.laws.Says.{plan_says}
 use Rattle.house.specs.declared.Plan.{Plan}
 use Rattle.house.specs.declared.Order.{Order}
 use Rattle.house.specs.declared.Order.TheVariants.{Post, Stand, Retry, Cut, Carry}
-use Rattle.records.specs.Answers.{not_sound, small_tray, no_such}
+use Rattle.records.specs.Answers.{Answer, done}
+use Rattle.records.specs.declared.answers.Refusal.TheVariants.{NotSound, SmallTray, NoSuch}
 use Rattle.records.specs.Bytes.{length_of}
 use Rattle.records.specs.Rec.{meaning}
-use Rattle.records.specs.declared.Answer.{Answer}
-use Rattle.records.specs.declared.Answer.TheVariants.{Done, No}
 use Rattle.records.specs.declared.Record.{Record}
-use Rattle.records.proofs.laws.Answers.{no_done, no_is}
+use Rattle.records.specs.declared.answers.Refusal.{Refusal}
+use Rattle.records.proofs.laws.Answers.{no_done, no_is, ok_is}
+use Rattle.records.proofs.laws.Outcome.{with_value}
 use Rattle.post.specs.Posting.{length_at, start_of, bytes_from}
 use Rattle.post.proofs.laws.Posting.{part_from}
 use Rattle.boxes.specs.Sound.{sound}
@@ -46,33 +48,31 @@ use Rattle.rehearsal.specs.Steps.{step_of, Can, Goes, Judges}
 
 -- ---- refused, or not
 
-done_no : {n : ℕ} {A : Type 0} → ◌≡◌ {A = Answer} Done (No n) → A
-done_no e = let z : ◌≡◌ {A = ℕ} 0 1 = cc in absurd (omega arith)
+pub judges_no : {P : Plan} {used : ℕ} {x : BoxState} {s : List ℕ} {o : Order} (why : Refusal) → alone P used x s o ≡ refused why
+    → Judges P used x s o (Err why)
+judges_no why e = record { refuse = λ m q. e ∙ ap refused (no_is q); go = λ r q. no_done q }
 
-pub judges_no : {P : Plan} {used : ℕ} {x : BoxState} {s : List ℕ} {o : Order} (k : ℕ) (r : Record) → alone P used x s o ≡ refused k
-    → Judges P used x s o (No k) r
-judges_no k r e = record { refuse = λ m q. e ∙ ap refused (no_is q); go = λ q. no_done q }
+pub judges_go : {P : Plan} {used : ℕ} {x : BoxState} {s : List ℕ} {o : Order} {r : Record} → Goes P used x s o r → Judges P used x s o (Ok r)
+judges_go {P} {used} {x} {s} {o} {r} g =
+    record { refuse = λ m q. no_done (sym q); go = λ v q. subst (Goes P used x s o) (ok_is q) g }
 
-pub judges_go : {P : Plan} {used : ℕ} {x : BoxState} {s : List ℕ} {o : Order} {r : Record} → Goes P used x s o r → Judges P used x s o Done r
-judges_go g = record { refuse = λ k q. done_no q; go = λ q. g }
-
-pub judges_as : {P : Plan} {used : ℕ} {x : BoxState} {s : List ℕ} {o p : Order} {a : Answer} {r : Record} → o ≡ p → Judges P used x s p a r
-    → Judges P used x s o a r
+pub judges_as : {P : Plan} {used : ℕ} {x : BoxState} {s : List ℕ} {o p : Order} {a : Result Record Refusal} → o ≡ p → Judges P used x s p a
+    → Judges P used x s o a
 judges_as e J = rw e J
 
 module _ (P : Plan) (used : ℕ) (x : BoxState) (s : List ℕ) (o : Order) where
-  pub plan_off : plan_sound P ≡ false → alone P used x s o ≡ refused not_sound
-  plan_off h = guard_off not_sound _ h
+  pub plan_off : plan_sound P ≡ false → alone P used x s o ≡ refused NotSound
+  plan_off h = guard_off NotSound _ h
 
-  pub none_such : plan_sound P ≡ true → exists P (here used) s o ≡ false → alone P used x s o ≡ refused no_such
-  none_such p h = guard_on not_sound _ p ∙ guard_off no_such _ h
+  pub none_such : plan_sound P ≡ true → exists P (here used) s o ≡ false → alone P used x s o ≡ refused NoSuch
+  none_such p h = guard_on NotSound _ p ∙ guard_off NoSuch _ h
 
   pub some_such : plan_sound P ≡ true → exists P (here used) s o ≡ true → alone P used x s o ≡ if_fits P (here used) s (acts_on P used x s o)
-  some_such p h = guard_on not_sound _ p ∙ guard_on no_such _ h
+  some_such p h = guard_on NotSound _ p ∙ guard_on NoSuch _ h
 
   -- the box refuses it
-  pub acts_no : (k : ℕ) → plan_sound P ≡ true → exists P (here used) s o ≡ true → acts_on P used x s o ≡ refused k → alone P used x s o ≡ refused k
-  acts_no k p h e = some_such p h ∙ ap (if_fits P (here used) s) e
+  pub acts_no : (why : Refusal) → plan_sound P ≡ true → exists P (here used) s o ≡ true → acts_on P used x s o ≡ refused why → alone P used x s o ≡ refused why
+  acts_no why p h e = some_such p h ∙ ap (if_fits P (here used) s) e
 
   -- the box does it
   pub acts_on_lem : (r : Record) → plan_sound P ≡ true → exists P (here used) s o ≡ true → acts_on P used x s o ≡ step_of P x o r
@@ -80,7 +80,7 @@ module _ (P : Plan) (used : ℕ) (x : BoxState) (s : List ℕ) (o : Order) where
   acts_on_lem r p h e = some_such p h ∙ ap (if_fits P (here used) s) e
 
 every_stays : (P : Plan) (x : BoxState) (o : Out) → Every (Keeps P x) o → sound P x ≡ true → sound P (box_after x o) ≡ true
-every_stays P x (refused k) no_step h = h
+every_stays P x (refused why) no_step h = h
 every_stays P x (does y l d) (a_step K) h = sound_is P y K.fine.sound
 
 -- a step that keeps the box sound goes
@@ -102,11 +102,13 @@ module _ {P : Plan} {used : ℕ} {x : BoxState} {s : List ℕ} {o : Order} {r : 
             every_stays P x (step_of P x o r) K';
       }
 
-  -- the answer is that of its box
-  pub answers : plan_sound P ≡ true → exists P (here used) s o ≡ true → (a : Answer) → acts_on P used x s o ≡ under a (step_of P x o r)
-      → (a ≡ Done → Can P x o r) → was_done (step_of P x o r) ≡ true → Every (Keeps P x) (acts_on P used x s o) → Judges P used x s o a r
-  answers p h (No k) e c d K = judges_no k r (acts_no P used x s o k p h e)
-  answers p h Done e c d K = judges_go (goes_kept p h (c refl) d e K)
+-- the answer is that of its box
+pub answers : {P : Plan} {used : ℕ} {x : BoxState} {s : List ℕ} {o : Order} (r : Record) → plan_sound P ≡ true → exists P (here used) s o ≡ true
+    → (a : Answer) → acts_on P used x s o ≡ under a (step_of P x o r)
+    → (a ≡ done → Can P x o r) → was_done (step_of P x o r) ≡ true → Every (Keeps P x) (acts_on P used x s o)
+    → Judges P used x s o (with_value r a)
+answers {P} {used} {x} {s} {o} r p h (Err why) e c d K = judges_no why (acts_no P used x s o why p h e)
+answers {P} {used} {x} {s} {o} r p h (Ok u) e c d K = judges_go (goes_kept p h (c refl) d e K)
 
 -- ---- each order
 
@@ -137,35 +139,35 @@ retry_low P used s p j h e = job_low P j h (and_right (ltb p (boxes_of P)) (is_j
 
 -- a box that is not sound answers 1
 module _ (P : Plan) (used : ℕ) (x : BoxState) (s : List ℕ) (h : sound P x ≡ false) where
-  pub stand_unsound : (p : ℕ) → acts_on P used x s (Stand p) ≡ refused not_sound
+  pub stand_unsound : (p : ℕ) → acts_on P used x s (Stand p) ≡ refused NotSound
   unfolding acts_on stood
-  stand_unsound p = guard_off not_sound _ h
+  stand_unsound p = guard_off NotSound _ h
 
-  pub retry_unsound : (p j : ℕ) → acts_on P used x s (Retry p j) ≡ refused not_sound
+  pub retry_unsound : (p j : ℕ) → acts_on P used x s (Retry p j) ≡ refused NotSound
   unfolding acts_on retried
-  retry_unsound p j = guard_off not_sound _ h
+  retry_unsound p j = guard_off NotSound _ h
 
-  pub cut_unsound : (p : ℕ) → acts_on P used x s (Cut p) ≡ refused not_sound
+  pub cut_unsound : (p : ℕ) → acts_on P used x s (Cut p) ≡ refused NotSound
   unfolding acts_on cut_off
-  cut_unsound p = guard_off not_sound _ h
+  cut_unsound p = guard_off NotSound _ h
 
-  pub carry_unsound : (k : ℕ) → acts_on P used x s (Carry k) ≡ refused not_sound
+  pub carry_unsound : (k : ℕ) → acts_on P used x s (Carry k) ≡ refused NotSound
   unfolding acts_on receives
-  carry_unsound k = guard_off not_sound _ h
+  carry_unsound k = guard_off NotSound _ h
 
 -- a sound box, with a tray of the rehearsal's own
 module _ (P : Plan) (used : ℕ) (x : BoxState) (s : List ℕ) (h : sound P x ≡ true) where
   pub stand_acts : (p : ℕ) → acts_on P used x s (Stand p) ≡ stand P x
   unfolding acts_on stood
-  stand_acts p = guard_on not_sound _ h ∙ guard_on small_tray (stand P x) (le-leb least_tray least_tray (omega arith))
+  stand_acts p = guard_on NotSound _ h ∙ guard_on SmallTray (stand P x) (le-leb least_tray least_tray (omega arith))
 
   pub retry_acts : (p j : ℕ) → acts_on P used x s (Retry p j) ≡ retry P x j
   unfolding acts_on retried
-  retry_acts p j = guard_on not_sound _ h ∙ guard_on small_tray (retry P x j) (le-leb least_tray least_tray (omega arith))
+  retry_acts p j = guard_on NotSound _ h ∙ guard_on SmallTray (retry P x j) (le-leb least_tray least_tray (omega arith))
 
   pub cut_acts : (p : ℕ) (r : Record) → acts_on P used x s (Cut p) ≡ step_of P x (Cut p) r
   unfolding acts_on cut_off
-  cut_acts p r = guard_on not_sound _ h
+  cut_acts p r = guard_on NotSound _ h
 
   module _ (L : Lengths x) where
     pub stand_keeps : (p : ℕ) → Every (Keeps P x) (acts_on P used x s (Stand p))
@@ -181,21 +183,21 @@ module _ (P : Plan) (used : ℕ) (x : BoxState) (s : List ℕ) (h : sound P x �
     cut_keeps p = cut_off_every P x L
 
 -- a carry: what the box answered to the record's bytes
-pub carry_judges : (P : Plan) (used : ℕ) (x : BoxState) (s : List ℕ) (k : ℕ) (a : Answer) (r : Record) → plan_sound P ≡ true
+pub carry_judges : (P : Plan) (used : ℕ) (x : BoxState) (s : List ℕ) (k : ℕ) (a : Result Record Refusal) → plan_sound P ≡ true
     → exists P (here used) s (Carry k) ≡ true → Lengths x
-    → Judging P x (bytes_from P s (start_of P s used k)) a r → Judges P used x s (Carry k) a r
+    → Judging P x (bytes_from P s (start_of P s used k)) a → Judges P used x s (Carry k) a
 unfolding acts_on
-carry_judges P used x s k a r p h L J =
+carry_judges P used x s k a p h L J =
     record {
-      refuse = λ n q. acts_no P used x s (Carry k) n p h (J.refuse n q least_tray (omega arith));
+      refuse = λ why q. acts_no P used x s (Carry k) why p h (J.refuse why q least_tray (omega arith));
       go =
-          λ q.
-          let g = J.go q least_tray (omega arith) in
+          λ r q.
+          let g = J.go r q least_tray (omega arith) in
           goes_kept
           p
           h
-          (g.1, J.done q)
-          (judged_done P x (meaning r) (J.done q))
+          (g.1, J.taken r q)
+          (judged_done P x (meaning r) (J.taken r q))
           g.0
           (receives_every P x least_tray (bytes_from P s (start_of P s used k)) L);
     }

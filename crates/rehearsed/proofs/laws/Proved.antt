@@ -1,5 +1,6 @@
 -- DEMAND 3 and the regulator's sentence hold of every rehearsal of a sound plan.
 -- Each moment of a rehearsal is a moment of the world's run over the orders that 12 did not refuse.
+use Rattle.std.specs.Prelude.{Option}
 use Prim.Native.Nat.{ℕ, ◌<◌}
 use mathlib.Core.Bool.{true}
 use mathlib.Core.List.{List, ◌++◌}
@@ -18,7 +19,6 @@ use Rattle.records.specs.Rec.{Rec, unknown}
 use Rattle.boxes.specs.Box.{row_at}
 use Rattle.boxes.specs.Out.{does}
 use Rattle.boxes.specs.declared.BoxState.{BoxState}
-use Rattle.boxes.specs.declared.Delivery.{Delivery}
 use Rattle.world.specs.World as Worlds
 use Rattle.world.specs.World.{World, box_at, new, run}
 use Rattle.in_order.specs.Words as WorldWords
@@ -132,7 +132,7 @@ module _ (P : Plan) (sound : plan_sound P ≡ true) (lent : List ℕ) where
             (hands_world (reached_at os) (beside_at os) i p m b s h) n (final_then os later k t f) o);
       }
     where
-      delivers : (os : List Order) (o : Order) (y : BoxState) (l : List Rec) (d : Delivery) → answered P (afterwards P lent os) o ≡ does y l d
+      delivers : (os : List Order) (o : Order) (y : BoxState) (l : List Rec) (d : Option ℕ) → answered P (afterwards P lent os) o ≡ does y l d
           → Delivered (box_on (afterwards P lent os) (Nights.whose P (afterwards P lent os).night (afterwards P lent os).post o)) y d
       delivers os o y l d e =
           let R = reached_at os in let S = beside_at os in let w = run P (new P) (orders os) in

@@ -1,4 +1,5 @@
 -- Laws of what specs/Runs.antt defines.
+use Rattle.records.specs.Answers.{refusal_no}
 use Prim.Native.Nat.{ℕ, ◌≤◌, ◌<◌}
 use mathlib.Core.Bool.{Bool, true, false}
 use mathlib.Core.List.{List, [], ◌∷◌, ◌++◌}
@@ -37,7 +38,7 @@ use Rattle.rehearsed.specs.Runs.{Stage, after, rehearsed, beginning, answered, s
 
 -- refused by 12
 abbrev pub is_full : Out → Bool
-is_full (refused k) = eqb k 12
+is_full (refused why) = eqb (refusal_no why) 12
 is_full (does x l d) = false
 
 -- the orders of a rehearsal that 12 did not refuse
@@ -68,9 +69,8 @@ module _ {P : Plan} {r : Stage} {w : World} (R : Reached P w) (S : Beside P r w)
     where
       go : Alike P r.night r.post w o → Same P (night_after P r.night r.post o) (post_after P r.night r.post o) w
       go (both_refuse a) =
-          let k = a.number in
-          let h = (answers R o k a.world_refuses).high in
-          let q = eqb-true k 12 (ap is_full (sym a.refuses) ∙ e) in
+          let h = (answers R o a.why a.world_refuses).high in
+          let q = eqb-true (refusal_no a.why) 12 (ap is_full (sym a.refuses) ∙ e) in
           absurd (omega arith)
       go (both_do a) = never e (ap is_full a.does_it)
       go (full a) = subst₂ (λ (n : Night) (s : List ℕ). Same P n s w) (sym a.night) (sym a.post) S

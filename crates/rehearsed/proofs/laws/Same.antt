@@ -1,5 +1,7 @@
 -- A night and its post's bytes beside a world: the same boxes, and the bytes of the world's records.
 -- An order to the night is the order to the world, with one test more at the end: that the records fit.
+use Rattle.records.specs.declared.answers.Refusal.TheVariants.{NotSound, NoSuch}
+use Rattle.std.specs.Prelude.{None}
 use Prim.Native.Nat.{ℕ, ◌≤◌, ◌<◌}
 use mathlib.Core.Bool.{true, false, ◌&&◌}
 use mathlib.Core.List.{List, ◌++◌}
@@ -28,7 +30,6 @@ use Rattle.boxes.specs.Out.{does, guard}
 use Rattle.boxes.specs.Post.{posts}
 use Rattle.boxes.specs.Step.{takes, receives, stood, retried, cut_off}
 use Rattle.boxes.specs.declared.BoxState.{BoxState}
-use Rattle.boxes.specs.declared.Delivery.TheVariants.{Nothing}
 use Rattle.stays_sound.proofs.laws.Sends.{Good}
 use Rattle.world.specs.World as Worlds
 use Rattle.world.specs.World.{World, box_at, record_at}
@@ -116,7 +117,7 @@ module _ {P : Plan} {n : Night} {s : List ℕ} {w : World} (R : Reached P w) (S 
   -- and the box does the same
   pub acts_same : (o : Order) → Worlds.exists P w o ≡ true → Nights.acts P n s o ≡ Worlds.acts P w o
   unfolding Nights.acts Worlds.acts Worlds.exists Nights.whose
-  acts_same (Post j) e = ap (λ (x : BoxState). does x (posts P j) Nothing) (box_same 0 (some_box P R.plan))
+  acts_same (Post j) e = ap (λ (x : BoxState). does x (posts P j) None) (box_same 0 (some_box P R.plan))
   acts_same (Stand p) e = ap (λ (x : BoxState). stood P x least_tray) (box_same p (ltb-true p (boxes_of P) e))
   acts_same (Retry p j) e =
       ap (λ (x : BoxState). retried P x j least_tray) (box_same p (ltb-true p (boxes_of P) (and_left (ltb p (boxes_of P)) (is_job P j) e)))
@@ -132,7 +133,7 @@ module _ {P : Plan} {n : Night} {s : List ℕ} {w : World} (R : Reached P w) (S 
   given_same o = go (look (Worlds.exists P w o))
     where
       go : (Worlds.exists P w o ≡ true) ⊎ (Worlds.exists P w o ≡ false)
-          → guard (plan_sound P) 1 (guard (Nights.exists P n s o) 11 (if_fits P n s (Nights.acts P n s o)))
-          ≡ if_fits P n s (guard (plan_sound P) 1 (guard (Worlds.exists P w o) 11 (Worlds.acts P w o)))
+          → guard (plan_sound P) NotSound (guard (Nights.exists P n s o) NoSuch (if_fits P n s (Nights.acts P n s o)))
+          ≡ if_fits P n s (guard (plan_sound P) NotSound (guard (Worlds.exists P w o) NoSuch (Worlds.acts P w o)))
       go (inl e) = rw (R.plan, exists_same o, e, acts_same o e)
       go (inr e) = rw (R.plan, exists_same o, e)

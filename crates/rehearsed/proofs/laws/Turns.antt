@@ -1,4 +1,8 @@
 -- Laws of what specs/Turns.antt defines.
+use Rattle.records.specs.Answers.{refusal_no}
+use Rattle.records.specs.declared.answers.Refusal.{Refusal}
+use Rattle.records.specs.declared.answers.Refusal.TheVariants.{NotSound, PostFull}
+use Rattle.std.specs.Prelude.{Option}
 use Prim.Native.Nat.{ℕ, ◌+◌, ◌≤◌, ◌<◌}
 use mathlib.Core.Bool.{true}
 use mathlib.Core.List.{List, [], ◌++◌, append_assoc}
@@ -25,7 +29,6 @@ use Rattle.records.proofs.laws.Bytes.{encode_append}
 use Rattle.boxes.specs.Out.{Out, refused, does, guard}
 use Rattle.boxes.proofs.laws.Answers.{guard_does}
 use Rattle.boxes.specs.declared.BoxState.{BoxState}
-use Rattle.boxes.specs.declared.Delivery.{Delivery}
 use Rattle.world.specs.World as Worlds
 use Rattle.world.specs.World.{World}
 use Rattle.stays_sound.proofs.laws.Sends.{every_does}
@@ -72,36 +75,36 @@ written_front s bs u h =
 -- ---- an outcome behind tests
 
 -- what is done exists
-pub done_exists : (P : Plan) (w : World) (o : Order) {x : BoxState} {l : List Rec} {d : Delivery} → Worlds.given P w o ≡ does x l d
+pub done_exists : (P : Plan) (w : World) (o : Order) {x : BoxState} {l : List Rec} {d : Option ℕ} → Worlds.given P w o ≡ does x l d
     → Worlds.exists P w o ≡ true
 unfolding Worlds.given
 done_exists P w o e = (guard_does _ _ _ (guard_does _ _ _ e).1).0
 
 -- the test that the records fit
-fits_passes : (P : Plan) (n : Night) (s : List ℕ) (x : BoxState) (l : List Rec) (d : Delivery) → n.used + length (encode_all P l) ≤ room_of s
+fits_passes : (P : Plan) (n : Night) (s : List ℕ) (x : BoxState) (l : List Rec) (d : Option ℕ) → n.used + length (encode_all P l) ≤ room_of s
     → fitting P n s (does x l d) ≡ does x l d
 unfolding fitting guard
 fits_passes P n s x l d h =
     rw (or_right (eqb (length (encode_all P l)) 0) (leb (n.used + length (encode_all P l)) (room_of s))
     (le-leb (n.used + length (encode_all P l)) (room_of s) h))
 
-fits_fails : (P : Plan) (n : Night) (s : List ℕ) (x : BoxState) (l : List Rec) (d : Delivery) → n.used ≤ room_of s
+fits_fails : (P : Plan) (n : Night) (s : List ℕ) (x : BoxState) (l : List Rec) (d : Option ℕ) → n.used ≤ room_of s
     → room_of s < n.used + length (encode_all P l)
-    → fitting P n s (does x l d) ≡ refused 12
+    → fitting P n s (does x l d) ≡ refused PostFull
 unfolding fitting guard
 fits_fails P n s x l d u h =
     rw (ne_eqb (length (encode_all P l)) 0 (omega arith), lt-leb (n.used + length (encode_all P l)) (room_of s) h)
 
 -- ---- an order that is refused changes nothing
 
-module _ (P : Plan) (n : Night) (s : List ℕ) (o : Order) {k : ℕ} (e : Nights.given P n s o ≡ refused k) where
+module _ (P : Plan) (n : Night) (s : List ℕ) (o : Order) {why : Refusal} (e : Nights.given P n s o ≡ refused why) where
   pub night_stays : night_after P n s o ≡ n
   night_stays = ap (λ (g : Out). (turn_of P n (Nights.whose P n s o) g).night) e
 
   pub post_stays : post_after P n s o ≡ s
   post_stays = ap (post_of P n s) e ∙ written_none P s n.used
 
-pub world_stays : (P : Plan) (w : World) (o : Order) {k : ℕ} → Worlds.given P w o ≡ refused k → Worlds.step P w o ≡ w
+pub world_stays : (P : Plan) (w : World) (o : Order) {why : Refusal} → Worlds.given P w o ≡ refused why → Worlds.step P w o ≡ w
 unfolding Worlds.step
 world_stays P w o e = ap (Worlds.finish w (Worlds.whose w o)) e
 
@@ -126,11 +129,11 @@ module _ {P : Plan} {n : Night} {s : List ℕ} {w : World} (R : Reached P w) (S 
         fits = rw (room_same (take n.used s ++ onto (encode_all P l) (drop n.used s)) s z) f;
       }
 
-  -- refused by the world, refused here, with the same number
-  pub refused_same : (o : Order) {k : ℕ} → Worlds.given P w o ≡ refused k → Nights.given P n s o ≡ refused k
+  -- refused by the world, refused here, for the same reason
+  pub refused_same : (o : Order) {why : Refusal} → Worlds.given P w o ≡ refused why → Nights.given P n s o ≡ refused why
   refused_same o e = given_same R S o ∙ ap (Nights.if_fits P n s) e
 
-  module _ (o : Order) {x : BoxState} {l : List Rec} {d : Delivery} (e : Worlds.given P w o ≡ does x l d) where
+  module _ (o : Order) {x : BoxState} {l : List Rec} {d : Option ℕ} (e : Worlds.given P w o ≡ does x l d) where
     -- done by the world and the records fit: done here, and the two stay side by side
     pub does_same : n.used + length (encode_all P l) ≤ room_of s → Nights.given P n s o ≡ does x l d
     does_same h = given_same R S o ∙ ap (Nights.if_fits P n s) e ∙ fits_passes P n s x l d h
@@ -146,14 +149,14 @@ module _ {P : Plan} {n : Night} {s : List ℕ} {w : World} (R : Reached P w) (S 
     after_length h = ap (λ (g : Out). length (post_of P n s g)) (does_same h) ∙ (let m = room_most s in written_length s (encode_all P l) n.used (omega arith))
 
     -- they do not fit: 12
-    pub does_full : room_of s < n.used + length (encode_all P l) → Nights.given P n s o ≡ refused 12
+    pub does_full : room_of s < n.used + length (encode_all P l) → Nights.given P n s o ≡ refused PostFull
     does_full h = given_same R S o ∙ ap (Nights.if_fits P n s) e ∙ fits_fails P n s x l d S.fits h
 
 -- the same refusal; night, post and world stay
 pub record Refused (P : Plan) (n : Night) (s : List ℕ) (w : World) (o : Order) : Type 0 where
-  pub number : ℕ
-  pub world_refuses : Worlds.given P w o ≡ refused number
-  pub refuses : Nights.given P n s o ≡ refused number
+  pub why : Refusal
+  pub world_refuses : Worlds.given P w o ≡ refused why
+  pub refuses : Nights.given P n s o ≡ refused why
   pub night : night_after P n s o ≡ n
   pub post : post_after P n s o ≡ s
   pub world : Worlds.step P w o ≡ w
@@ -162,7 +165,7 @@ pub record Refused (P : Plan) (n : Night) (s : List ℕ) (w : World) (o : Order)
 pub record Done (P : Plan) (n : Night) (s : List ℕ) (w : World) (o : Order) : Type 0 where
   pub box : BoxState
   pub sent : List Rec
-  pub delivered : Delivery
+  pub delivered : Option ℕ
   pub world_does : Worlds.given P w o ≡ does box sent delivered
   pub room : n.used + length (encode_all P sent) ≤ room_of s
   pub does_it : Nights.given P n s o ≡ does box sent delivered
@@ -173,10 +176,10 @@ pub record Done (P : Plan) (n : Night) (s : List ℕ) (w : World) (o : Order) : 
 pub record Full (P : Plan) (n : Night) (s : List ℕ) (w : World) (o : Order) : Type 0 where
   pub box : BoxState
   pub sent : List Rec
-  pub delivered : Delivery
+  pub delivered : Option ℕ
   pub world_does : Worlds.given P w o ≡ does box sent delivered
   pub no_room : room_of s < n.used + length (encode_all P sent)
-  pub refuses : Nights.given P n s o ≡ refused 12
+  pub refuses : Nights.given P n s o ≡ refused PostFull
   pub night : night_after P n s o ≡ n
   pub post : post_after P n s o ≡ s
 
@@ -190,7 +193,7 @@ module _ {P : Plan} {n : Night} {s : List ℕ} {w : World} (R : Reached P w) (S 
   pub alike : (o : Order) → Alike P n s w o
   alike o = go (Worlds.given P w o) refl
     where
-      fit : (x : BoxState) (l : List Rec) (d : Delivery) → Worlds.given P w o ≡ does x l d → Dec (n.used + length (encode_all P l) ≤ room_of s)
+      fit : (x : BoxState) (l : List Rec) (d : Option ℕ) → Worlds.given P w o ≡ does x l d → Dec (n.used + length (encode_all P l) ≤ room_of s)
           → Alike P n s w o
       fit x l d e (yes h) =
           both_do
@@ -219,11 +222,11 @@ module _ {P : Plan} {n : Night} {s : List ℕ} {w : World} (R : Reached P w) (S 
           })
 
       go : (g : Out) → Worlds.given P w o ≡ g → Alike P n s w o
-      go (refused k) e =
+      go (refused why) e =
           let r = refused_same R S o e in
           both_refuse
           (record {
-            number = k;
+            why = why;
             world_refuses = e;
             refuses = r;
             night = night_stays P n s o r;
@@ -232,37 +235,39 @@ module _ {P : Plan} {n : Night} {s : List ℕ} {w : World} (R : Reached P w) (S 
           })
       go (does x l d) e = fit x l d e (dec_le (n.used + length (encode_all P l)) (room_of s))
 
-  refused_number : {a b : ℕ} → ◌≡◌ {A = Out} (refused a) (refused b) → a ≡ b
-  refused_number e = cc
+  refused_why : {a b : Refusal} → ◌≡◌ {A = Out} (refused a) (refused b) → a ≡ b
+  refused_why e = cc
 
-  refused_not : {a : ℕ} {x : BoxState} {l : List Rec} {d : Delivery} → ◌≡◌ {A = Out} (does x l d) (refused a) → ⊥
+  refused_not : {a : Refusal} {x : BoxState} {l : List Rec} {d : Option ℕ} → ◌≡◌ {A = Out} (does x l d) (refused a) → ⊥
   refused_not e = let z : ◌≡◌ {A = ℕ} 0 1 = cc in omega arith
 
   -- a refusal is the world's, or 12
-  pub refusal_is : (o : Order) (k : ℕ) → Nights.given P n s o ≡ refused k → (Worlds.given P w o ≡ refused k) ⊎ (k ≡ 12)
-  refusal_is o k e = go (alike o)
+  pub refusal_is : (o : Order) (why : Refusal) → Nights.given P n s o ≡ refused why → (Worlds.given P w o ≡ refused why) ⊎ (why ≡ PostFull)
+  refusal_is o why e = go (alike o)
     where
-      go : Alike P n s w o → (Worlds.given P w o ≡ refused k) ⊎ (k ≡ 12)
-      go (both_refuse r) = inl (r.world_refuses ∙ ap refused (refused_number (sym r.refuses ∙ e)))
+      go : Alike P n s w o → (Worlds.given P w o ≡ refused why) ⊎ (why ≡ PostFull)
+      go (both_refuse r) = inl (r.world_refuses ∙ ap refused (refused_why (sym r.refuses ∙ e)))
       go (both_do r) = absurd (refused_not (sym r.does_it ∙ e))
-      go (full r) = inr (refused_number (sym e ∙ r.refuses))
+      go (full r) = inr (refused_why (sym e ∙ r.refuses))
 
   -- every answer is 6 to 12
-  pub night_answers : (o : Order) (k : ℕ) → Nights.given P n s o ≡ refused k → (6 ≤ k) × (k ≤ 12)
-  night_answers o k e = go (refusal_is o k e)
+  pub night_answers : (o : Order) (why : Refusal) → Nights.given P n s o ≡ refused why → (6 ≤ refusal_no why) × (refusal_no why ≤ 12)
+  night_answers o why e = go (refusal_is o why e)
     where
-      go : (Worlds.given P w o ≡ refused k) ⊎ (k ≡ 12) → (6 ≤ k) × (k ≤ 12)
-      go (inl r) = let f = answers R o k r in omega arith
-      go (inr r) = omega arith
+      go : (Worlds.given P w o ≡ refused why) ⊎ (why ≡ PostFull) → (6 ≤ refusal_no why) × (refusal_no why ≤ 12)
+      go (inl r) = let f = answers R o why r in omega arith
+      go (inr r) = rw r (omega arith)
 
   -- no order answers 1
-  pub night_never_one : (o : Order) → Nights.given P n s o ≢ refused 1
-  night_never_one o e = let f = night_answers o 1 e in omega arith
+  pub night_never_one : (o : Order) → Nights.given P n s o ≢ refused NotSound
+  night_never_one o e = let f = night_answers o NotSound e in omega arith
 
   -- a record of the post, by its bytes: never 1 to 6, so neither another shape nor another value
-  pub night_carry_never : (i k : ℕ) → Nights.given P n s (Carry i) ≡ refused k → (k ≢ 1) × (k ≢ 2) × (k ≢ 3) × (k ≢ 4) × (k ≢ 5) × (k ≢ 6)
-  night_carry_never i k e = go (refusal_is (Carry i) k e)
+  pub night_carry_never : (i : ℕ) (why : Refusal) → Nights.given P n s (Carry i) ≡ refused why
+      → (refusal_no why ≢ 1) × (refusal_no why ≢ 2) × (refusal_no why ≢ 3) × (refusal_no why ≢ 4) × (refusal_no why ≢ 5) × (refusal_no why ≢ 6)
+  night_carry_never i why e = go (refusal_is (Carry i) why e)
     where
-      go : (Worlds.given P w (Carry i) ≡ refused k) ⊎ (k ≡ 12) → (k ≢ 1) × (k ≢ 2) × (k ≢ 3) × (k ≢ 4) × (k ≢ 5) × (k ≢ 6)
-      go (inl r) = let f = carry_answers R i k r in omega arith
-      go (inr r) = omega arith
+      go : (Worlds.given P w (Carry i) ≡ refused why) ⊎ (why ≡ PostFull)
+          → (refusal_no why ≢ 1) × (refusal_no why ≢ 2) × (refusal_no why ≢ 3) × (refusal_no why ≢ 4) × (refusal_no why ≢ 5) × (refusal_no why ≢ 6)
+      go (inl r) = let f = carry_answers R i why r in omega arith
+      go (inr r) = rw r (omega arith)

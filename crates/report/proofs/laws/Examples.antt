@@ -1,5 +1,6 @@
 -- Lines of the report, byte for byte: document 01's run, and a job that no box has committed.
 -- Each comment gives the line in plain text.
+use Rattle.std.specs.Prelude.{Some, None}
 use mathlib.Core.Bool.{true, false}
 use mathlib.Core.List.{[], ◌∷◌}
 use mathlib.Core.Path.{◌≡◌, refl}
@@ -20,11 +21,12 @@ unfolding box_text titled list_text jobs_text all_for decimal in_digits pick ite
 box_two = refl
 
 -- job 0 1 0 yes
-pub job_done : job_text 0 true 1 0 true ≡ 106 ∷ 111 ∷ 98 ∷ 32 ∷ 48 ∷ 32 ∷ 49 ∷ 32 ∷ 48 ∷ 32 ∷ 121 ∷ 101 ∷ 115 ∷ 10 ∷ []
+pub job_done : job_text 0 (Some (record { time = 1; district = record { 0 = 0 } })) true
+    ≡ 106 ∷ 111 ∷ 98 ∷ 32 ∷ 48 ∷ 32 ∷ 49 ∷ 32 ∷ 48 ∷ 32 ∷ 121 ∷ 101 ∷ 115 ∷ 10 ∷ []
 unfolding job_text titled stamp_text decimal in_digits pick item
 job_done = refl
 
 -- job 7 - - no
-pub job_open : job_text 7 false 1 0 false ≡ 106 ∷ 111 ∷ 98 ∷ 32 ∷ 55 ∷ 32 ∷ 45 ∷ 32 ∷ 45 ∷ 32 ∷ 110 ∷ 111 ∷ 10 ∷ []
+pub job_open : job_text 7 None false ≡ 106 ∷ 111 ∷ 98 ∷ 32 ∷ 55 ∷ 32 ∷ 45 ∷ 32 ∷ 45 ∷ 32 ∷ 110 ∷ 111 ∷ 10 ∷ []
 unfolding job_text titled stamp_text decimal in_digits pick item
 job_open = refl

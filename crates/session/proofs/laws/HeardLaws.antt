@@ -1,6 +1,6 @@
 -- A refused order leaves the night and the post as they were; what an order leaves, from what the rehearsal promised.
+use Rattle.std.specs.Prelude.{Err}
 use Prim.Native.Nat.{ℕ}
-use mathlib.Core.Bool.{true}
 use mathlib.Core.List.{List}
 use mathlib.Core.Path.{◌≡◌, sym, ap, ◌∙◌}
 use lib.ListN.{take-append-drop}
@@ -8,7 +8,7 @@ use Rattle.laws.specs.Tray.{onto}
 use Rattle.house.specs.declared.Order.{Order}
 use Rattle.records.specs.Bytes.{encode_all}
 use Rattle.boxes.specs.Out.{refused}
-use Rattle.report.specs.Texts.{answer_text}
+use Rattle.records.specs.declared.answers.Refusal.{Refusal}
 use Rattle.rehearsal.specs.declared.Night.{Night}
 use Rattle.rehearsal.specs.declared.nights.Turn.{Turn}
 use Rattle.rehearsal.specs.Night.{given}
@@ -20,16 +20,16 @@ use Rattle.session.specs.Heard.{turn_text, obeyed}
 
 -- an order, from what the rehearsal promised
 pub obeyed_is : (d : Desk) {n : Night} {s : List ℕ} {o : Order} {t : Turn} {after : List ℕ} → OrderRehearsed d.plan n s o t after
-    → obeyed d n s o ≡ record { desk = fixed_desk d; night = t.night; post = after; text = turn_text t.answer t.records }
+    → obeyed d n s o ≡ record { desk = fixed_desk d; night = t.night; post = after; text = turn_text t.answer }
 unfolding obeyed
 obeyed_is d {n} {s} {o} {t} {after} R =
     let e = turn_is R in
-    ap (λ (u : Turn). record { desk = fixed_desk d; night = u.night; post = (obeyed d n s o).post; text = turn_text u.answer u.records }) (sym e)
-    ∙ ap (λ (p : List ℕ). record { desk = fixed_desk d; night = t.night; post = p; text = turn_text t.answer t.records }) (sym R.post)
+    ap (λ (u : Turn). record { desk = fixed_desk d; night = u.night; post = (obeyed d n s o).post; text = turn_text u.answer }) (sym e)
+    ∙ ap (λ (p : List ℕ). record { desk = fixed_desk d; night = t.night; post = p; text = turn_text t.answer }) (sym R.post)
 
--- a refused order fixes the plan and prints `no k`, with the rehearsal's k (1 where the plan is unsound), and does nothing else
-pub refused_leaves : (d : Desk) (n : Night) (s : List ℕ) (o : Order) (k : ℕ) → given d.plan n s o ≡ refused k
-    → obeyed d n s o ≡ record { desk = fixed_desk d; night = n; post = s; text = answer_text true k }
+-- a refused order fixes the plan and prints `no` and the number of the rehearsal's refusal (1 where the plan is unsound), and does nothing else
+pub refused_leaves : (d : Desk) (n : Night) (s : List ℕ) (o : Order) (why : Refusal) → given d.plan n s o ≡ refused why
+    → obeyed d n s o ≡ record { desk = fixed_desk d; night = n; post = s; text = turn_text (Err why) }
 unfolding obeyed encode_all onto
-refused_leaves d n s o k e =
-    rw e (ap (λ (post : List ℕ). record { desk = fixed_desk d; night = n; post = post; text = answer_text true k }) (take-append-drop n.used s))
+refused_leaves d n s o why e =
+    rw e (ap (λ (post : List ℕ). record { desk = fixed_desk d; night = n; post = post; text = turn_text (Err why) }) (take-append-drop n.used s))

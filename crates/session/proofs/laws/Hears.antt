@@ -1,4 +1,5 @@
 -- Laws of what specs/Hears.antt defines.
+use Rattle.std.specs.Prelude.{Option, None, Some, is_some, Err}
 use Prim.Native.Nat.{ℕ}
 use mathlib.Core.Bool.{Bool, true, false, ◌&&◌, ◌||◌}
 use mathlib.Core.List.{List}
@@ -11,15 +12,21 @@ use Rattle.rehearsal.proofs.laws.Alone.{alone_is}
 use Rattle.rehearsal.specs.declared.Night.{Night}
 use Rattle.lines.specs.declared.Typed.{Typed}
 use Rattle.lines.specs.declared.Typed.TheVariants.{Given}
-use Rattle.report.specs.Texts.{answer_text}
 use Rattle.session.specs.declared.Desk.{Desk}
 use Rattle.session.specs.Desk.{districts_here, job_here, fixed_desk}
-use Rattle.session.specs.Heard.{handled}
+use Rattle.session.specs.Heard.{handled, turn_text}
 use Rattle.session.proofs.laws.HeardLaws.{refused_leaves}
 use Rattle.session.specs.declared.hear.Heard.{Heard}
 use Rattle.session.specs.Hears.{Plain, Obeys, Hears}
 
 -- ---- laws
+
+-- some, and none
+pub some_none : {A B : Type 0} {o : Option A} {a : A} → o ≡ Some a → o ≡ None → B
+some_none p q = let z : ◌≡◌ {A = Bool} true false = ap is_some (sym p ∙ q) in never refl z
+
+pub some_is : {A : Type 0} {a b : A} → ◌≡◌ {A = Option A} (Some a) (Some b) → a ≡ b
+some_is e = cc
 
 or_true : (b : Bool) → (b || true) ≡ true
 or_true true = refl
@@ -55,7 +62,7 @@ module _ {d : Desk} {used : ℕ} {x : BoxState} {s : List ℕ} {h : Heard} {befo
         most = H.says.most;
         done = λ q n at S.
             (text, f n ∙ ap (λ (z : Desk). record { desk = z; night = n; post = s; text = text }) (sym H.says.desk_is), H.says.long, H.says.text_is);
-        go = λ q. never q H.stays;
+        go = λ r q. some_none q H.stays;
         known = λ q. never q H.unknown;
         fixed = λ q. H.says.desk_is ∙ g q;
       }
@@ -69,13 +76,13 @@ module _ {d : Desk} {used : ℕ} {x : BoxState} {s : List ℕ} {h : Heard} {befo
         done = λ q n at S.
             let r = O.refuse q in
             let g = alone_is d.plan used x s o n at S ∙ r.1 in (
-              answer_text true r.0,
+              turn_text (Err r.0),
               refused_leaves d n s o r.0 g
-                  ∙ ap (λ (z : Desk). record { desk = z; night = n; post = s; text = answer_text true r.0 }) (sym O.fixed),
+                  ∙ ap (λ (z : Desk). record { desk = z; night = n; post = s; text = turn_text (Err r.0) }) (sym O.fixed),
               r.2.long,
               r.2.text_is,
             );
-        go = λ q. let g = O.go q in (g.0, g.1, g.2, O.fixed, λ n. refl);
+        go = λ r q. let g = O.go r q in (g.0, g.1, g.2, O.fixed, λ n. refl);
         known = λ q. (ap (λ (z : Desk). z.fixed) O.fixed, rw O.fixed (sym O.known ∙ q));
         fixed = λ q. O.fixed ∙ fixed_same d q;
       }

@@ -1,4 +1,5 @@
 -- The loop over the lines of a chunk: what holds at the beginning of each line, and that each line leads on to the next.
+use Rattle.std.specs.Prelude.{Option, None, Some}
 use Prim.Native.Nat.{ℕ, ◌+◌, ◌-◌, ◌*◌, ◌≤◌, ◌<◌}
 use mathlib.Core.Bool.{Bool, true, false}
 use mathlib.Core.List.{List, ◌++◌}
@@ -8,7 +9,6 @@ use lib.ListN.{length, get_or, set, take, length-set, length-drop}
 use lib.Seq.{take-length}
 use borrow.Rule.Slice.PartMut.{mid_of, put_mid}
 use Rattle.house.specs.Limits.{most_boxes}
-use Rattle.laws.proofs.laws.Choice.{pick_true, pick_false}
 use Rattle.laws.specs.Tray.{onto}
 use Rattle.laws.proofs.laws.Tray.{then, rest_of}
 use Rattle.boxes.specs.Sound.{sound}
@@ -185,7 +185,7 @@ module _ {s : Session} {post₀ chunk t₀ : List ℕ} {from : ℕ} {post t : Li
       sure_now = sure_heard place r.desk r.known (rw R.known_long at_low) (box_is d) F T.known T.fixed R.sure
 
       -- whatever the boxes are then called
-      turns : (boxes₁ : List BoxState) → boxes₁ ≡ boxes_after r a.at boxes → length boxes₁ ≡ most_boxes
+      turns : (boxes₁ : List BoxState) → boxes₁ ≡ boxes_after r.state a.at boxes → length boxes₁ ≡ most_boxes
           → Sure r.desk boxes₁ r.used post₁ (set known a.at r.known) later a.count
           → Reads s post₀ chunk t₀ a.next post₁ t₁ boxes₁ r.used r.desk a.line (set known a.at r.known) later a.count (text + r.text)
       turns boxes₁ e l S =
@@ -218,7 +218,7 @@ module _ {s : Session} {post₀ chunk t₀ : List ℕ} {from : ℕ} {post t : Li
       grown = sure_grown r.used post₁ T.more T.front sure_now
 
       -- its box is a new one
-      pub steps : r.new ≡ true
+      pub steps : (y : BoxState) → r.state ≡ Some y
           →
           Reads
           s
@@ -228,7 +228,7 @@ module _ {s : Session} {post₀ chunk t₀ : List ℕ} {from : ℕ} {post t : Li
           a.next
           post₁
           t₁
-          (set boxes a.at r.state)
+          (set boxes a.at y)
           r.used
           r.desk
           a.line
@@ -236,14 +236,14 @@ module _ {s : Session} {post₀ chunk t₀ : List ℕ} {from : ℕ} {post t : Li
           later
           a.count
           (text + r.text)
-      steps f =
+      steps y f =
           turns
-          (set boxes a.at r.state)
-          (sym (pick_true (set boxes a.at r.state) boxes f))
-          (length-set boxes a.at r.state ∙ R.boxes_long)
-          (sure_stepped a.at r.state r.used post₁ (rw R.boxes_long at_low) (rw (← box_is d) (T.stays f)) T.more T.front sure_now)
+          (set boxes a.at y)
+          (sym (ap (λ (o : Option BoxState). boxes_after o a.at boxes) f))
+          (length-set boxes a.at y ∙ R.boxes_long)
+          (sure_stepped a.at y r.used post₁ (rw R.boxes_long at_low) (rw (← box_is d) (T.stays y f)) T.more T.front sure_now)
 
       -- or all boxes are as they were
-      pub passes : r.new ≡ false
+      pub passes : r.state ≡ None
           → Reads s post₀ chunk t₀ a.next post₁ t₁ boxes r.used r.desk a.line (set known a.at r.known) later a.count (text + r.text)
-      passes f = turns boxes (sym (pick_false (set boxes a.at r.state) boxes f)) R.boxes_long grown
+      passes f = turns boxes (sym (ap (λ (o : Option BoxState). boxes_after o a.at boxes) f)) R.boxes_long grown

@@ -1,6 +1,6 @@
 -- Reading what was written gives the record back; writing what was read gives the bytes back. For any kind at once.
 use Prim.Native.Nat.{ℕ, ◌+◌, ◌-◌, ◌*◌, ◌≤◌}
-use mathlib.Core.Bool.{Bool, true, false, ◌&&◌}
+use mathlib.Core.Bool.{true}
 use mathlib.Core.List.{List, [], ◌∷◌, ◌++◌, append_assoc, append-nil}
 use mathlib.Core.Path.{◌≡◌, refl, sym, ap, ◌∙◌}
 use native.Mathlib.Omega.{arith}
@@ -159,10 +159,6 @@ module _ (P : Plan) (r : Record) (sound : plan_sound P ≡ true) (A : Arrays r) 
             stamps = stamps_count;
             rows = rows_count;
           }
-
-and_true : (a : Bool) → a && true ≡ a
-and_true true = refl
-and_true false = refl
 
 -- the first five bytes
 first_five : (s : List ℕ) → 5 ≤ length s → get_or s 0 0 ∷ get_or s 1 0 ∷ get_or s 2 0 ∷ get_or s 3 0 ∷ get_or s 4 0 ∷ [] ≡ take 5 s

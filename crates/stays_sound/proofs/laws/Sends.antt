@@ -1,5 +1,6 @@
 -- What a step sends: who gets a record, how many there are, and what every one of them must be.
 -- What holds of every outcome that is not a refusal.
+use Rattle.std.specs.Prelude.{Option}
 use Prim.Native.Nat.{ℕ, zero, suc, ◌+◌, ◌-◌, ◌*◌, ◌≤◌, ◌<◌, min}
 use mathlib.Core.Bool.{Bool, true, false}
 use mathlib.Core.List.{List, [], ◌∷◌, ◌++◌}
@@ -22,24 +23,24 @@ use Rattle.records.specs.Format.{has_job}
 use Rattle.records.specs.Rec.{Rec, carried, sender_of, addressee_of}
 use Rattle.records.specs.Rules.{valid}
 use Rattle.records.proofs.laws.Lengths.{Arrays}
+use Rattle.records.specs.declared.answers.Refusal.{Refusal}
 use Rattle.boxes.specs.Out.{Out, refused, does, guard, to_each}
 use Rattle.boxes.specs.declared.BoxState.{BoxState}
-use Rattle.boxes.specs.declared.Delivery.{Delivery}
 
 -- ---- outcomes
 
 -- what holds of the box and the records of every outcome that is not a refusal
 pub data Every (Q : BoxState → List Rec → Type 0) : Out → Type 0 where
-  no_step : {n : ℕ} → Every Q (refused n)
-  a_step : {y : BoxState} {l : List Rec} {d : Delivery} → Q y l → Every Q (does y l d)
+  no_step : {why : Refusal} → Every Q (refused why)
+  a_step : {y : BoxState} {l : List Rec} {d : Option ℕ} → Q y l → Every Q (does y l d)
 
 -- it may use the test that let the outcome through
-pub every_guard : {Q : BoxState → List Rec → Type 0} (t : Bool) (n : ℕ) (o : Out) → (t ≡ true → Every Q o) → Every Q (guard t n o)
+pub every_guard : {Q : BoxState → List Rec → Type 0} (t : Bool) (why : Refusal) (o : Out) → (t ≡ true → Every Q o) → Every Q (guard t why o)
 unfolding guard
-every_guard true n o f = f refl
-every_guard false n o f = no_step
+every_guard true why o f = f refl
+every_guard false why o f = no_step
 
-pub every_does : {Q : BoxState → List Rec → Type 0} {o : Out} {y : BoxState} {l : List Rec} {d : Delivery} → Every Q o → o ≡ does y l d → Q y l
+pub every_does : {Q : BoxState → List Rec → Type 0} {o : Out} {y : BoxState} {l : List Rec} {d : Option ℕ} → Every Q o → o ≡ does y l d → Q y l
 every_does {Q} {o} {y} {l} {d} e h = go (rw h at e)
   where
     go : Every Q (does y l d) → Q y l

@@ -1,5 +1,6 @@
 -- Every step keeps a box sound and sends good records that fit: by kind, and for the orders that bring no record.
 -- These are the theorems that the rest of the project cites.
+use Rattle.std.specs.Prelude.{Option}
 use Prim.Native.Nat.{ℕ, ◌≤◌}
 use mathlib.Core.Bool.{true, ◌||◌}
 use mathlib.Core.List.{List, []}
@@ -35,7 +36,6 @@ use Rattle.boxes.specs.Cut.{cut}
 use Rattle.boxes.specs.Step.{react, takes, retried, stood, cut_off}
 use Rattle.boxes.specs.declared.BoxState.{BoxState}
 use Rattle.boxes.proofs.laws.Answers.{under_or}
-use Rattle.boxes.specs.declared.Delivery.{Delivery}
 use Rattle.boxes.proofs.laws.Sound.{sound_says, sound_is}
 use Rattle.boxes.specs.Lengths.{Lengths}
 use Rattle.stays_sound.proofs.laws.Fresh.{cut_sound, cut_lengths}
@@ -153,7 +153,7 @@ cut_off_every P x L = every_guard _ _ _ (λ s. a_step (cut_keeps (fine P x s L))
 
 -- ---- the theorems
 
-module _ (P : Plan) (x : BoxState) (L : Lengths x) {y : BoxState} {l : List Rec} {d : Delivery} where
+module _ (P : Plan) (x : BoxState) (L : Lengths x) {y : BoxState} {l : List Rec} {d : Option ℕ} where
   pub retry_keeps : (j : ℕ) → sound P x ≡ true → retry P x j ≡ does y l d → Keeps P x y l
   retry_keeps j s h = every_does (retry_every (fine P x s L) j) h
 

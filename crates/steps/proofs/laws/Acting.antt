@@ -16,12 +16,13 @@ use Rattle.house.specs.Plan.{is_job, is_box, home_of, names, plan_sound}
 use Rattle.house.proofs.laws.Says.{plan_says, box_says, home_low}
 use Rattle.house.specs.declared.Plan.{Plan}
 use Rattle.house.specs.declared.BoxNo.{BoxNo}
-use Rattle.records.specs.Answers.{not_sound, small_tray, broken_rule, other_box}
+use Rattle.records.specs.Answers.{done}
+use Rattle.records.specs.declared.answers.Refusal.{Refusal}
+use Rattle.records.specs.declared.answers.Refusal.TheVariants.{NotSound, SmallTray, BrokenRule, OtherBox}
 use Rattle.records.specs.Bytes.{encode_all}
 use Rattle.records.specs.Format.{most_kind}
 use Rattle.records.specs.Rec.{meaning}
 use Rattle.records.specs.Rules.{valid}
-use Rattle.records.specs.declared.Answer.TheVariants.{Done}
 use Rattle.records.specs.declared.Record.{Record}
 use Rattle.records.proofs.laws.Obeys.{Told, rules_say, valid_parts, valid_kind}
 use Rattle.boxes.specs.Box.{is_recovering, home_in, own_of, last_stamp, on_list, listed_at}
@@ -44,9 +45,9 @@ every_fits {P} no_step = let f = fits_none P in omega arith
 every_fits (a_step k) = let f = k.fits in omega arith
 
 -- a guard that lets through
-pub guard_on : {t : Bool} (n : ℕ) (o : Out) → t ≡ true → guard t n o ≡ o
+pub guard_on : {t : Bool} (why : Refusal) (o : Out) → t ≡ true → guard t why o ≡ o
 unfolding guard
-guard_on n o e = rw e
+guard_on why o e = rw e
 
 -- the step of a record that passes the tests 1 to 5
 pub takes_on : (P : Plan) (x : BoxState) (room : ℕ) (r : Record)
@@ -54,7 +55,7 @@ pub takes_on : (P : Plan) (x : BoxState) (room : ℕ) (r : Record)
     → takes P x room r ≡ react P x (meaning r)
 unfolding takes
 takes_on P x room r s h v t =
-    guard_on not_sound _ s ∙ guard_on small_tray _ (le-leb least_tray room h) ∙ guard_on broken_rule _ v ∙ guard_on other_box _ t
+    guard_on NotSound _ s ∙ guard_on SmallTray _ (le-leb least_tray room h) ∙ guard_on BrokenRule _ v ∙ guard_on OtherBox _ t
 
 pub acting : (P : Plan) (x : BoxState) (room : ℕ) (r : Record)
     → Lengths x → Arrays r → sound P x ≡ true → least_tray ≤ room → valid P r ≡ true → eqb r.to.0 (own_of x).0 ≡ true
@@ -88,7 +89,7 @@ pub home_place : (P : Plan) (p : BoxNo) → plan_sound P ≡ true → is_box P p
 home_place P p s h = let l = home_low P p (box_says P p h) in let m = (plan_says P s).districts_most in omega arith
 
 -- what the answer to a DELIVER that is not refused says of the tests 6 and 9
-named_new : (a b c d l : Bool) → in_order a b c (d && not l) true ≡ Done → (a ≡ true) × (l ≡ false)
+named_new : (a b c d l : Bool) → in_order a b c (d && not l) true ≡ done → (a ≡ true) × (l ≡ false)
 named_new true true true true false h = (refl, refl)
 named_new true true true true true h = (cc, cc)
 named_new true true true false l h = (cc, cc)
@@ -102,7 +103,7 @@ unfolding on_list
 on_list_lem x j i l e = some_is (λ k. eqb (listed_at x k).job j) x.core.count i l (eq-eqb (listed_at x i).job j e)
 
 -- so a DELIVER that is not refused has room there
-pub room_listed : (P : Plan) (x : BoxState) (j : ℕ) (y : Handout) → SoundBox P x → deliver_answer P x j y ≡ Done → x.core.count < most_jobs
+pub room_listed : (P : Plan) (x : BoxState) (j : ℕ) (y : Handout) → SoundBox P x → deliver_answer P x j y ≡ done → x.core.count < most_jobs
 unfolding listed_at
 room_listed P x j y S h =
     let ready = not (is_recovering x.core.status) in

@@ -1,5 +1,6 @@
 -- Which answers never come in a reached world: 1 to 5 for no order, 1 to 6 for no record of the post.
 -- No order answers 12 there: the post has no limit.
+use Rattle.std.specs.Prelude.{Option}
 use Prim.Native.Nat.{ℕ, ◌≤◌}
 use mathlib.Core.Bool.{Bool, true, false}
 use mathlib.Core.List.{List}
@@ -24,6 +25,9 @@ use Rattle.house.specs.declared.Order.{Order}
 use Rattle.house.specs.declared.Order.TheVariants.{Post, Stand, Retry, Cut, Carry}
 use Rattle.records.specs.Rec.{newstate_ack, unknown, carried, sender_of, addressee_of}
 use Rattle.records.proofs.laws.Rec.{meaning_carried}
+use Rattle.records.specs.Answers.{refusal_no}
+use Rattle.records.specs.declared.answers.Refusal.{Refusal}
+use Rattle.records.specs.declared.answers.Refusal.TheVariants.{NotSound}
 use Rattle.boxes.specs.Box.{own_of, home_in}
 use Rattle.boxes.specs.Sound.{sound}
 use Rattle.boxes.specs.Out.{Out, refused, does, guard}
@@ -40,7 +44,6 @@ use Rattle.boxes.specs.NewstateAck.{on_newstate_ack}
 use Rattle.boxes.specs.Step.{react, takes, retried, stood, cut_off}
 use Rattle.boxes.proofs.laws.Answers.{under_or}
 use Rattle.boxes.specs.declared.BoxState.{BoxState}
-use Rattle.boxes.specs.declared.Delivery.{Delivery}
 use Rattle.world.specs.World.{World, box_at, record_at, new, exists, acts, given, run}
 use Rattle.records.proofs.laws.Obeys.{Obeys}
 use Rattle.stays_sound.proofs.laws.Sends.{Good}
@@ -51,30 +54,30 @@ use Rattle.world.proofs.laws.Reached.{Reached, record_good, record_box, reached}
 
 -- the refusals of an outcome have such numbers only
 pub data Only (S : ℕ → Type 0) : Out → Type 0 where
-  only_no : {n : ℕ} → S n → Only S (refused n)
-  only_does : {y : BoxState} {l : List Rec} {d : Delivery} → Only S (does y l d)
+  only_no : {why : Refusal} → S (refusal_no why) → Only S (refused why)
+  only_does : {y : BoxState} {l : List Rec} {d : Option ℕ} → Only S (does y l d)
 
 -- a test that may fail has such a number
-only_test : {S : ℕ → Type 0} (t : Bool) (n : ℕ) (o : Out) → S n → Only S o → Only S (guard t n o)
+only_test : {S : ℕ → Type 0} (t : Bool) (why : Refusal) (o : Out) → S (refusal_no why) → Only S o → Only S (guard t why o)
 unfolding guard
-only_test true n o s k = k
-only_test false n o s k = only_no s
+only_test true why o s k = k
+only_test false why o s k = only_no s
 
 -- a test that holds refuses nothing
-only_holds : {S : ℕ → Type 0} (t : Bool) (n : ℕ) (o : Out) → t ≡ true → Only S o → Only S (guard t n o)
+only_holds : {S : ℕ → Type 0} (t : Bool) (why : Refusal) (o : Out) → t ≡ true → Only S o → Only S (guard t why o)
 unfolding guard
-only_holds t n o e k = rw e k
+only_holds t why o e k = rw e k
 
 -- behind a test its truth may be used
-only_after : {S : ℕ → Type 0} (t : Bool) (n : ℕ) (o : Out) → S n → (t ≡ true → Only S o) → Only S (guard t n o)
+only_after : {S : ℕ → Type 0} (t : Bool) (why : Refusal) (o : Out) → S (refusal_no why) → (t ≡ true → Only S o) → Only S (guard t why o)
 unfolding guard
-only_after true n o s k = k refl
-only_after false n o s k = only_no s
+only_after true why o s k = k refl
+only_after false why o s k = only_no s
 
-pub only_says : {S : ℕ → Type 0} {o : Out} {n : ℕ} → Only S o → o ≡ refused n → S n
-only_says {S} {o} {n} e h = go (rw h at e)
+pub only_says : {S : ℕ → Type 0} {o : Out} {why : Refusal} → Only S o → o ≡ refused why → S (refusal_no why)
+only_says {S} {o} {why} e h = go (rw h at e)
   where
-    go : Only S (refused n) → S n
+    go : Only S (refused why) → S (refusal_no why)
     go (only_no s) = s
 
 -- an answer from a to 11
@@ -168,7 +171,7 @@ module _ (P : Plan) (x : BoxState) where
 -- ---- in a reached world
 
 only_more : {o : Out} → Only (From 7) o → Only (From 6) o
-only_more (only_no {n = n} f) = let l = f.low in let h = f.high in only_no {n = n} (omega arith)
+only_more (only_no {why = why} f) = let l = f.low in let h = f.high in only_no {why = why} (omega arith)
 only_more only_does = only_does
 
 module _ {P : Plan} {w : World} (R : Reached P w) where
@@ -199,26 +202,28 @@ module _ {P : Plan} {w : World} (R : Reached P w) where
   given_late (Carry k) = only_more (carry_late k)
 
   -- every answer of an order is 6 to 11
-  pub answers : (o : Order) (n : ℕ) → given P w o ≡ refused n → From 6 n
-  answers o n e = only_says (given_late o) e
+  pub answers : (o : Order) (why : Refusal) → given P w o ≡ refused why → From 6 (refusal_no why)
+  answers o why e = only_says (given_late o) e
 
   -- so no order answers 1, and none 2 to 5 or 12
-  pub never_one : (o : Order) → given P w o ≢ refused 1
-  never_one o e = let f = (answers o 1 e).low in omega arith
+  pub never_one : (o : Order) → given P w o ≢ refused NotSound
+  never_one o e = let f = (answers o NotSound e).low in omega arith
 
   -- every answer of a carry is 7 to 11
-  pub carry_answers : (k n : ℕ) → given P w (Carry k) ≡ refused n → From 7 n
-  carry_answers k n e = only_says (carry_late k) e
+  pub carry_answers : (k : ℕ) (why : Refusal) → given P w (Carry k) ≡ refused why → From 7 (refusal_no why)
+  carry_answers k why e = only_says (carry_late k) e
 
   -- so a record of the post is never refused as one of another plan, tray, shape, value, address or job
-  pub carry_never : (k n : ℕ) → given P w (Carry k) ≡ refused n → (n ≢ 1) × (n ≢ 2) × (n ≢ 3) × (n ≢ 4) × (n ≢ 5) × (n ≢ 6)
-  carry_never k n e = let f = carry_answers k n e in omega arith
+  pub carry_never : (k : ℕ) (why : Refusal) → given P w (Carry k) ≡ refused why
+      → (refusal_no why ≢ 1) × (refusal_no why ≢ 2) × (refusal_no why ≢ 3) × (refusal_no why ≢ 4) × (refusal_no why ≢ 5) × (refusal_no why ≢ 6)
+  carry_never k why e = let f = carry_answers k why e in omega arith
 
 -- ---- under any orders
 
 module _ (P : Plan) (sound : plan_sound P ≡ true) (os : List Order) where
-  pub run_never_one : (o : Order) → given P (run P (new P) os) o ≢ refused 1
+  pub run_never_one : (o : Order) → given P (run P (new P) os) o ≢ refused NotSound
   run_never_one o = never_one (reached P sound os) o
 
-  pub run_carry_never : (k n : ℕ) → given P (run P (new P) os) (Carry k) ≡ refused n → (n ≢ 1) × (n ≢ 2) × (n ≢ 3) × (n ≢ 4) × (n ≢ 5) × (n ≢ 6)
-  run_carry_never k n e = carry_never (reached P sound os) k n e
+  pub run_carry_never : (k : ℕ) (why : Refusal) → given P (run P (new P) os) (Carry k) ≡ refused why
+      → (refusal_no why ≢ 1) × (refusal_no why ≢ 2) × (refusal_no why ≢ 3) × (refusal_no why ≢ 4) × (refusal_no why ≢ 5) × (refusal_no why ≢ 6)
+  run_carry_never k why e = carry_never (reached P sound os) k why e

@@ -7,7 +7,7 @@ use Rattle.house.specs.declared.Plan.{Plan}
 use Rattle.rehearsal.specs.declared.Night.{Night}
 use Rattle.laws.specs.Tray.{onto, all_for}
 use lib.ListN.{length}
-use Prim.Native.Nat.{ℕ, ◌-◌, ◌*◌, ◌≤◌}
+use Prim.Native.Nat.{ℕ, ◌*◌, ◌≤◌}
 use mathlib.Core.List.{List}
 use mathlib.Core.Path.{◌≡◌}
 use Rattle.closing.proofs.closing.put_jobs.Given as goal
@@ -18,9 +18,6 @@ lines plan night j = all_for (job_report plan night) j
 
 abbrev pub invariant-loop-j : goal.invariant-loop-j
 invariant-loop-j l =
-    (l.j ≤ l.n) × (l.used ≤ job_most * l.j) × (length l.t ≡ length l.initial.t)
-    × ((night : Night) → AllEnded night (boxes_of l.plan) l.ends
+    (l.used ≤ job_most * l.j)
+    × ((night : Night) → AllEnded night (boxes_of l.plan) l.fn.ends
     → (l.used ≡ length (lines l.plan night l.j)) × (l.t ≡ onto (lines l.plan night l.j) l.initial.t))
-
-abbrev pub decreases-loop-j : goal.decreases-loop-j
-decreases-loop-j l = l.n - l.j

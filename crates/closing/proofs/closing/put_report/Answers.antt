@@ -13,32 +13,22 @@ use mathlib.Core.Path.{ap, subst, ◌∙◌}
 use borrow.Author.Rules.{rules}
 use Rattle.closing.proofs.closing.put_report.Goals as goal
 
-pub overflow_cast-n : goal.overflow_cast-n
-overflow_cast-n c = let a = c.args in omega (arith, c.boxes_of-n.ensures.0, boxes_most a.plan c.requires.0)
-
 pub put_boxes-boxed-requires : goal.put_boxes-boxed-requires
-put_boxes-boxed-requires c =
-    let boxes_of_says = c.boxes_of-n.ensures in
-    let a = c.args in
-    let asked = c.requires in
-    (omega (arith, boxes_of_says.0, boxes_most a.plan asked.0), search rules)
+put_boxes-boxed-requires c = (omega (arith, c.boxes_of.ensures.0, boxes_most c.args.plan c.requires.0), search rules)
 
 pub put_jobs-requires : goal.put_jobs-requires
-put_jobs-requires c =
-    (c.requires.0, (plan_says c.args.plan c.requires.0).jobs_most, search rules)
+put_jobs-requires c = (c.requires.0, (plan_says c.args.plan c.requires.0).jobs_most, search rules)
 
 pub returns : goal.returns
 unfolding sound_report
 returns c =
-    let boxes_of_says = c.boxes_of-n.ensures in
     let a = c.args in
     let p = c.put_boxes-boxed in
     let q = c.put_jobs in
-    let n = boxes_of_says.0 in
+    let n = c.boxes_of.ensures.0 in
     let e = ap (all_for (box_report a.night)) n in
     let j = q.ensures.1 a.night (subst (λ (k : ℕ). AllEnded a.night k p.result.ends) n p.ensures.3) in
     let s =
-    then (all_for (box_report a.night) (boxes_of a.plan)) (all_for (job_report a.plan a.night) a.plan.jobs) a.t.now
-    p.new.t q.new.t p.result.used q.result
+    then (all_for (box_report a.night) (boxes_of a.plan)) (all_for (job_report a.plan a.night) a.plan.jobs) a.t.now _ _ _ _
     (p.ensures.1 ∙ ap length e) (p.ensures.2 ∙ ap (λ (l : List ℕ). onto l a.t.now) e) j.0 j.1 in
     (omega (arith, p.ensures.0, q.ensures.0), s.0, s.1)

@@ -1,20 +1,13 @@
 -- `house::plans::named` meets its contract.
-use Rattle.house.specs.Plan.{names}
-use Rattle.laws.specs.Digits.{digit}
+use Rattle.std.proofs.Common.{rules, Fits, w8, sym, ◌∙◌}
+use borrow.Author.Tests.{le-ltb}
 use Rattle.laws.proofs.laws.Digits.{digit_beyond}
-use mir.Val.{Fits}
-use mir.Syntax.{w8}
-use mathlib.Core.Path.{sym}
-use borrow.Author.Rules.{rules}
+use Rattle.house.specs.Plan.{names}
 use Rattle.house.proofs.plans.named.Goals as goal
 
-pub returns-then-d-ge8 : goal.returns-then-d-ge8
+pub returns-else-d-lt8 : goal.returns-else-d-lt8
 unfolding names
-returns-then-d-ge8 c =
+returns-else-d-lt8 c =
     let m = c.mask_of-mask in
     let f : Fits w8 m.result = search rules in
-    sym (rw (← m.ensures) (digit_beyond m.result 8 c.args.d.0 f.fits c.if-d-ge8.true))
-
-pub returns : goal.returns
-unfolding names digit
-returns c = rw c.mask_of-mask.ensures
+    le-ltb _ _ c.if-d-lt8.false ∙ sym (rw (← m.ensures) (digit_beyond m.result 8 c.args.d.0 f.fits c.if-d-lt8.false))

@@ -1,9 +1,9 @@
 -- `jobs::accept::when_kept` meets its contract.
+use Rattle.std.specs.Prelude.{None}
 use mathlib.Core.List.{[]}
 use Rattle.jobs.proofs.laws.Steps.{sent_acks}
 use Rattle.sending.proofs.laws.Sends.{sends_as}
 use Rattle.records.proofs.laws.Bytes.{encode_none}
-use Rattle.boxes.specs.declared.Delivery.TheVariants.{Nothing}
 use Rattle.boxes.specs.Accept.{accepted, acks, when_kept}
 use Rattle.boxes.specs.Out.{does}
 use Rattle.laws.proofs.laws.Tray.{onto_nil}
@@ -24,7 +24,7 @@ done_sending-requires c =
     let if1_taken = c.if-all_kept.true in
     let asked = c.requires in
     let sent = sends_as (sent_acks a.plan c.requires.0 a.job y) c.kept_leaders-meant.ensures c.ack_record-r.ensures in
-    let accepts : when_kept a.plan a.x a.job ≡ does y (acks a.plan y a.job) Nothing =
+    let accepts : when_kept a.plan a.x a.job ≡ does y (acks a.plan y a.job) None =
     rw accept_says (pick_true _ _ (sym c.all_kept.ensures ∙ if1_taken)) in
     (asked.0, (_, sent, rw accepts at asked.2))
 
@@ -36,7 +36,7 @@ returns-then-all_kept c =
     let accept_says = c.accept-y.ensures in
     let if1_taken = c.if-all_kept.true in
     let sent = sends_as (sent_acks a.plan c.requires.0 a.job y) c.kept_leaders-meant.ensures c.ack_record-r.ensures in
-    let accepts : when_kept a.plan a.x a.job ≡ does y (acks a.plan y a.job) Nothing =
+    let accepts : when_kept a.plan a.x a.job ≡ does y (acks a.plan y a.job) None =
     rw accept_says (pick_true _ _ (sym c.all_kept.ensures ∙ if1_taken)) in
     let q = c.done_sending.ensures _ sent in
     (rw accepts q.0, rw accepts q.1)
@@ -50,7 +50,7 @@ returns c =
     let a = c.args in
     let v =
     pick_false
-    (does (accepted a.plan a.x a.job) (acks a.plan (accepted a.plan a.x a.job) a.job) Nothing)
-    (does a.x [] Nothing)
+    (does (accepted a.plan a.x a.job) (acks a.plan (accepted a.plan a.x a.job) a.job) None)
+    (does a.x [] None)
     (sym all_kept_says ∙ if1_left) in
     (done_says ∙ rw (v, encode_none a.plan), rw (v, encode_none a.plan) (sym (onto_nil a.tray.now)))

@@ -1,6 +1,6 @@
 -- `jobs::accept_ack::when_marked` meets its contract.
+use Rattle.std.specs.Prelude.{None}
 use Rattle.records.proofs.laws.Bytes.{encode_none}
-use Rattle.boxes.specs.declared.Delivery.TheVariants.{Nothing}
 use Rattle.boxes.specs.AcceptAck.{committed, when_marked}
 use Rattle.boxes.specs.Ready.{handing, hand_out}
 use Rattle.boxes.specs.Out.{does}
@@ -18,7 +18,7 @@ hand_out-h-requires c =
     let a = c.args in
     let asked = c.requires in
     let y = c.commit-y in
-    let v = pick_true (handing (hand_out a.plan (committed a.plan a.x a.job))) (does a.x [] Nothing) (sym is_enough_says ∙ if1_taken) in
+    let v = pick_true (handing (hand_out a.plan (committed a.plan a.x a.job))) (does a.x [] None) (sym is_enough_says ∙ if1_taken) in
     (asked.0, (y.result.volatile, rw y.ensures (rw v at asked.2)))
 
 pub returns-then-is_enough : goal.returns-then-is_enough
@@ -32,7 +32,7 @@ returns-then-is_enough c =
     let is_enough_says = c.is_enough.ensures in
     let a = c.args in
     let y = c.commit-y in
-    let v = pick_true (handing (hand_out a.plan (committed a.plan a.x a.job))) (does a.x [] Nothing) (sym is_enough_says ∙ if1_taken) in
+    let v = pick_true (handing (hand_out a.plan (committed a.plan a.x a.job))) (does a.x [] None) (sym is_enough_says ∙ if1_taken) in
     let q = hand_out_says y.result.volatile in
     let z : put_sent_result ≡ (hand_out a.plan y.result).box = put_sent_says ∙ q.0 in
     (done_says ∙ rw (v, z, q.1, q.2, y.ensures), rw (v, ← y.ensures) q.3)
@@ -44,5 +44,5 @@ returns c =
     let if1_left = c.if-is_enough.false in
     let is_enough_says = c.is_enough.ensures in
     let a = c.args in
-    let v = pick_false (handing (hand_out a.plan (committed a.plan a.x a.job))) (does a.x [] Nothing) (sym is_enough_says ∙ if1_left) in
+    let v = pick_false (handing (hand_out a.plan (committed a.plan a.x a.job))) (does a.x [] None) (sym is_enough_says ∙ if1_left) in
     (done2_says ∙ rw (v, encode_none a.plan), rw (v, encode_none a.plan) (sym (onto_nil a.tray.now)))

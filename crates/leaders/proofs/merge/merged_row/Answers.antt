@@ -6,7 +6,7 @@ pub returns : goal.returns
 returns c =
     let first_row2_says = c.first_row.ensures in
     let first_row_says = c.first_row-accepted.ensures in
-    let no_row_says = c.no_row-start.ensures in
+    let no_row_says = c.no_row.ensures in
     let same_ballot2_says = c.same_ballot-2.ensures in
     let same_ballot_says = c.same_ballot.ensures in
     let higher_ballot_says = c.higher_ballot-top.ensures in

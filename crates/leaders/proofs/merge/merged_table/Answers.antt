@@ -1,29 +1,23 @@
 -- `leaders::merge::merged_table` meets its contract.
-use mathlib.Core.Path.{◌≡◌, refl, ◌∙◌, ap}
+use Rattle.std.specs.Prelude.{◌≡◌, [], ◌∷◌, replicate, refl}
+use Rattle.std.proofs.Common.{rules, arith, ap, ◌∙◌}
+use Rattle.house.specs.Limits.{most_jobs}
 use Rattle.leaders.proofs.laws.Votes.{table_step}
 use Rattle.boxes.specs.Merge.{merged_table, vote_row}
-use mathlib.Core.List.{[], ◌∷◌}
-use lib.ListN.{replicate}
-use native.Mathlib.Omega.{arith}
-use borrow.Author.Rules.{rules}
 use Rattle.leaders.proofs.merge.merged_table.Goals as goal
 
 pub loop-j-init : goal.loop-j-init
 unfolding merged_table
-loop-j-init c = (search rules, λ u v eu ru ev rv. ap (replicate 64) c.no_row-start.ensures)
+loop-j-init c = (search rules, ap (replicate most_jobs) c.no_row-table.ensures)
 
 pub loop-j-preserved : goal.loop-j-preserved
 unfolding vote_row
 loop-j-preserved c =
-    let merged_row_says = c.merged_row.ensures in
-    let l = c.loop-j in (
-      omega arith,
-      λ u v eu ru ev rv. rw (l.invariant.1 u v eu ru ev rv, merged_row_says u v l.j eu (rw ru) ev (rw rv)) (table_step (u ∷ v ∷ []) l.j),
-    )
+    let l = c.loop-j in
+    (omega arith, rw (l.invariant.1, c.merged_row.ensures c.args.low c.args.high l.j refl refl refl refl) (table_step (c.args.low ∷ c.args.high ∷ []) l.j))
 
 pub returns : goal.returns
 returns c =
-    let a = c.args in
     let l = c.loop-j in
-    let e : l.j ≡ a.jobs = omega arith in
-    l.invariant.1 a.low a.high refl refl refl refl ∙ ap (merged_table (a.low ∷ a.high ∷ [])) e
+    let e : l.j ≡ c.args.jobs = omega arith in
+    l.invariant.1 ∙ ap (merged_table (c.args.low ∷ c.args.high ∷ [])) e

@@ -1,9 +1,9 @@
 -- `leaders::newleader_ack::when_voted` meets its contract.
+use Rattle.std.specs.Prelude.{None}
 use Rattle.leaders.proofs.laws.Voted.{states_sent}
 use Rattle.leaders.proofs.laws.Votes.{quorum_held}
 use Rattle.boxes.specs.NewleaderAck.{new_states, when_voted}
 use Rattle.boxes.specs.Out.{does}
-use Rattle.boxes.specs.declared.Delivery.TheVariants.{Nothing}
 use Rattle.sending.proofs.laws.Sends.{sends_as}
 use Rattle.records.proofs.laws.Bytes.{encode_none}
 use Rattle.house.proofs.laws.Says.{plan_says}
@@ -33,7 +33,7 @@ done_sending-requires c =
     let if1_taken = c.if-is_quorum.true in
     let asked = c.requires in
     let sent = sends_as (states_sent a.plan c.requires.0 y) c.other_boxes-meant.ensures c.new_state_record-r.ensures in
-    let merges : when_voted a.plan a.x a.v ≡ does y (new_states a.plan y) Nothing =
+    let merges : when_voted a.plan a.x a.v ≡ does y (new_states a.plan y) None =
     rw merge_says (pick_true _ _ (sym c.is_quorum.ensures ∙ if1_taken)) in
     (asked.0, (_, sent, rw merges at asked.1))
 
@@ -45,7 +45,7 @@ returns-then-is_quorum c =
     let merge_says = c.merge-y.ensures in
     let if1_taken = c.if-is_quorum.true in
     let sent = sends_as (states_sent a.plan c.requires.0 y) c.other_boxes-meant.ensures c.new_state_record-r.ensures in
-    let merges : when_voted a.plan a.x a.v ≡ does y (new_states a.plan y) Nothing =
+    let merges : when_voted a.plan a.x a.v ≡ does y (new_states a.plan y) None =
     rw merge_says (pick_true _ _ (sym c.is_quorum.ensures ∙ if1_taken)) in
     let q = c.done_sending.ensures _ sent in
     (rw merges q.0, rw merges q.1)

@@ -1,54 +1,30 @@
 -- `lines::words::value` meets its contract.
-use Rattle.lines.proofs.laws.NumeralLaws.{number_digit, number_nine}
+use Rattle.lines.proofs.laws.NumeralLaws.{number_digit, nine_digits}
 use Rattle.lines.specs.Numeral.{value_of}
 use Rattle.laws.proofs.laws.Fold.{over_step}
-use lib.Seq.{take-length}
-use lib.ListN.{length}
-use lib.Dec.{lit<}
-use mathlib.Core.Path.{◌≡◌, refl, ap, ◌∙◌}
-use Prim.Native.Nat.{ℕ, ◌+◌, ◌-◌, ◌*◌, ◌^◌, ◌≤◌}
-use native.Mathlib.Numerals.{add-one}
-use native.Mathlib.Nat.{pow-le-pow_right, pow-suc}
-use native.Mathlib.Omega.{arith}
-use borrow.Author.Rules.{rules}
+use Rattle.std.proofs.Common.{rules, arith, refl, lit<, ◌≡◌, ◌+◌, ◌-◌, ◌*◌, ◌^◌, ℕ, add-one, pow-suc}
 use Rattle.lines.proofs.words.value.Goals as goal
 
-pub loop-i-init : goal.loop-i-init
+pub loop-b-init : goal.loop-b-init
 unfolding value_of
-loop-i-init c = (search rules, refl, refl, lit< tt)
+loop-b-init c = (refl, lit< tt)
 
-pub overflow_mul-v : goal.overflow_mul-v
-overflow_mul-v c =
-    let n = number_nine c.args.s.now c.requires in
-    let p : 10 ^ c.loop-i.i ≤ 100000000 = pow-le-pow_right {n = 10} (lit< tt) {i = c.loop-i.i} {j = 8} (omega arith) in search rules
+pub overflow_mul-n : goal.overflow_mul-n
+overflow_mul-n c = let p = nine_digits c.args.digits.now c.loop-b.b-index c.requires c.loop-b-test.true in search rules
 
-pub digit-requires : goal.digit-requires
-digit-requires c =
-    let given = c.args in
-    let asked = c.requires in
-    number_digit given.s.now c.loop-i.i asked (omega arith)
+pub overflow_sub-n : goal.overflow_sub-n
+overflow_sub-n c = let d = number_digit c.args.digits.now c.loop-b.b-index c.requires c.loop-b-test.true in search rules
 
-pub overflow_add-v : goal.overflow_add-v
-overflow_add-v c =
-    let given = c.args in
-    let asked = c.requires in
-    let n = number_nine given.s.now asked in
-    let p : 10 ^ c.loop-i.i ≤ 100000000 =
-    pow-le-pow_right {n = 10} (lit< tt) {i = c.loop-i.i} {j = 8} (omega arith) in
+pub overflow_add-n : goal.overflow_add-n
+overflow_add-n c =
+    let p = nine_digits c.args.digits.now c.loop-b.b-index c.requires c.loop-b-test.true in
+    let d = number_digit c.args.digits.now c.loop-b.b-index c.requires c.loop-b-test.true in
     search rules
 
-pub loop-i-preserved : goal.loop-i-preserved
+pub loop-b-preserved : goal.loop-b-preserved
 unfolding value_of
-loop-i-preserved c =
-    let d = c.digit.ensures in
-    let given = c.args in
-    let l = c.loop-i in
-    let p : 10 ^ (l.i + 1) ≡ 10 ^ l.i * 10 = rw add-one (pow-suc 10 l.i) in
-    (omega arith, l.invariant.1, rw (l.invariant.2, d.1) (over_step (λ (v b : ℕ). v * 10 + (b - 48)) 0 given.s.now l.i (omega arith)), omega (arith, p, d.0))
-
-pub returns : goal.returns
-returns c =
-    let s = c.args.s.now in
-    let l = c.loop-i in
-    let e : l.i ≡ length s = omega arith in
-    l.invariant.2 ∙ ap value_of (rw e (take-length s))
+loop-b-preserved c =
+    let l = c.loop-b in
+    let d = number_digit c.args.digits.now l.b-index c.requires c.loop-b-test.true in
+    let p : 10 ^ (l.b-index + 1) ≡ 10 ^ l.b-index * 10 = rw add-one (pow-suc 10 l.b-index) in
+    (rw l.invariant.0 (over_step (λ (v b : ℕ). v * 10 + (b - 48)) 0 c.args.digits.now l.b-index c.loop-b-test.true), omega (arith, p, d))

@@ -9,6 +9,7 @@ use lib.ListN.{length, get_or}
 use Prim.Native.Nat.{◌+◌, ◌*◌, ◌≤◌}
 use native.Mathlib.Omega.{arith}
 use mathlib.Core.Path.{refl}
+use borrow.Author.Rules.{rules}
 use Rattle.reader.proofs.read.parse_record.Goals as goal
 
 pub slice_bounds-read_head-count : goal.slice_bounds-read_head-count
@@ -26,18 +27,18 @@ read_head-head-requires c =
     let shape = shape_says c.args.plan c.args.s.now c.requires.1 in
     rest_room 1 4 _ c.args.s.now refl (omega (arith, shape.some))
 
-pub slice_bounds-read_ballots-count : goal.slice_bounds-read_ballots-count
-slice_bounds-read_ballots-count c =
+pub slice_bounds-read_section-count : goal.slice_bounds-read_section-count
+slice_bounds-read_section-count c =
     let shape = shape_says c.args.plan c.args.s.now c.requires.1 in
     omega (arith, shape.some)
 
-pub slice_bounds-read_ballots-start : goal.slice_bounds-read_ballots-start
-slice_bounds-read_ballots-start c =
+pub slice_bounds-read_section-start : goal.slice_bounds-read_section-start
+slice_bounds-read_section-start c =
     let shape = shape_says c.args.plan c.args.s.now c.requires.1 in
     omega (arith, shape.some)
 
-pub read_ballots-ballots-requires : goal.read_ballots-ballots-requires
-read_ballots-ballots-requires c =
+pub read_section-requires : goal.read_section-requires
+read_section-requires c =
     let shape = shape_says c.args.plan c.args.s.now c.requires.1 in
     let kind_is = kind_behind c.args.s.now c.read_head-head.ensures in
     let ballots_in_says = c.ballots_in.ensures in
@@ -47,21 +48,21 @@ read_ballots-ballots-requires c =
     let s = a.s.now in let k = get_or s 1 0 in
     let e = rw kind_is at ballots_in_says in
     let h : 6 + ballots_in_result * 3 ≤ length s = omega (arith, shape.whole, ballots_inside a.plan k, e) in
-    (rw e (ballots_most a.plan k asked.0), rest_room 6 (ballots_in_result * 3) _ s refl h)
+    (search rules, (rw e (ballots_most a.plan k asked.0), rest_room 6 (ballots_in_result * 3) _ s refl h))
 
-pub slice_bounds-read_stamps-count : goal.slice_bounds-read_stamps-count
-slice_bounds-read_stamps-count c =
+pub slice_bounds-read_section-count-2 : goal.slice_bounds-read_section-count-2
+slice_bounds-read_section-count-2 c =
     let shape = shape_says c.args.plan c.args.s.now c.requires.1 in
     let kind_is = kind_behind c.args.s.now c.read_head-head.ensures in
     let stamps_at_says = c.stamps_at-p.ensures in
     let a = c.args in
     omega (arith, shape.whole, stamps_inside a.plan (get_or a.s.now 1 0), rw kind_is at stamps_at_says.0)
 
-pub slice_bounds-read_stamps-start : goal.slice_bounds-read_stamps-start
-slice_bounds-read_stamps-start c = slice_bounds-read_stamps-count c
+pub slice_bounds-read_section-start-2 : goal.slice_bounds-read_section-start-2
+slice_bounds-read_section-start-2 c = slice_bounds-read_section-count-2 c
 
-pub read_stamps-stamps-requires : goal.read_stamps-stamps-requires
-read_stamps-stamps-requires c =
+pub read_section-requires-2 : goal.read_section-requires-2
+read_section-requires-2 c =
     let shape = shape_says c.args.plan c.args.s.now c.requires.1 in
     let kind_is = kind_behind c.args.s.now c.read_head-head.ensures in
     let stamps_in_says = c.stamps_in.ensures in
@@ -72,21 +73,21 @@ read_stamps-stamps-requires c =
     let s = a.s.now in let k = get_or s 1 0 in
     let e = rw kind_is at stamps_in_says in let f = rw kind_is at stamps_at_says.0 in
     let h : stamps_at_result + 1 + stamps_in_result * 5 ≤ length s = omega (arith, shape.whole, stamps_inside a.plan k, f, e) in
-    (rw e (stamps_most k), rest_room (stamps_at_result + 1) (stamps_in_result * 5) _ s refl h)
+    (search rules, (rw e (stamps_most k), rest_room (stamps_at_result + 1) (stamps_in_result * 5) _ s refl h))
 
-pub slice_bounds-read_rows-count : goal.slice_bounds-read_rows-count
-slice_bounds-read_rows-count c =
+pub slice_bounds-read_section-count-3 : goal.slice_bounds-read_section-count-3
+slice_bounds-read_section-count-3 c =
     let shape = shape_says c.args.plan c.args.s.now c.requires.1 in
     let kind_is = kind_behind c.args.s.now c.read_head-head.ensures in
     let rows_at_says = c.rows_at-q.ensures in
     let a = c.args in
     omega (arith, shape.whole, rows_inside a.plan (get_or a.s.now 1 0), rw kind_is at rows_at_says.0)
 
-pub slice_bounds-read_rows-start : goal.slice_bounds-read_rows-start
-slice_bounds-read_rows-start c = slice_bounds-read_rows-count c
+pub slice_bounds-read_section-start-3 : goal.slice_bounds-read_section-start-3
+slice_bounds-read_section-start-3 c = slice_bounds-read_section-count-3 c
 
-pub read_rows-table-requires : goal.read_rows-table-requires
-read_rows-table-requires c =
+pub read_section-requires-3 : goal.read_section-requires-3
+read_section-requires-3 c =
     let shape = shape_says c.args.plan c.args.s.now c.requires.1 in
     let kind_is = kind_behind c.args.s.now c.read_head-head.ensures in
     let rows_in_says = c.rows_in.ensures in
@@ -98,16 +99,16 @@ read_rows-table-requires c =
     let s = a.s.now in let k = get_or s 1 0 in
     let e = rw kind_is at rows_in_says in let f = rw kind_is at rows_at_says.0 in
     let h : rows_at_result + 1 + rows_in_result * 11 ≤ length s = omega (arith, shape.whole, rows_inside a.plan k, f, e) in
-    (rw e (rows_most a.plan k asked.0), rest_room (rows_at_result + 1) (rows_in_result * 11) _ s refl h)
+    (search rules, (rw e (rows_most a.plan k asked.0), rest_room (rows_at_result + 1) (rows_in_result * 11) _ s refl h))
 
 pub returns : goal.returns
 unfolding parse
 returns c =
-    let read_rows_says = c.read_rows-table.ensures in
+    let read_rows_says = c.read_section-3.ensures in
     let rows_in_says = c.rows_in.ensures in
-    let read_stamps_says = c.read_stamps-stamps.ensures in
+    let read_stamps_says = c.read_section-2.ensures in
     let stamps_in_says = c.stamps_in.ensures in
-    let read_ballots_says = c.read_ballots-ballots.ensures in
+    let read_ballots_says = c.read_section.ensures in
     let ballots_in_says = c.ballots_in.ensures in
     let rows_at_says = c.rows_at-q.ensures in
     let stamps_at_says = c.stamps_at-p.ensures in

@@ -1,41 +1,30 @@
 -- `reader::read::read_bytes` meets its contract.
-use Rattle.records.specs.Outcome.{read_no, read_answer, read_record}
+use Rattle.std.proofs.Common.{rules, ap, sym, ◌≡◌, ◌∙◌, true, false}
+use Rattle.records.specs.Outcome.{read_answer, read_record}
 use Rattle.records.proofs.laws.Outcome.{reads, read_promised}
 use Rattle.records.specs.Rules.{valid}
-use mathlib.Core.Path.{sym, ap, ◌∙◌}
+use Rattle.records.specs.Bytes.{shaped}
 use Rattle.reader.proofs.read.read_bytes.Goals as goal
 
-pub returns-else-is_shaped : goal.returns-else-is_shaped
-unfolding reads read_record read_answer read_no
-returns-else-is_shaped c =
-    let Refused-Says = c.refused.ensures in
-    let if1_left = c.if-is_shaped.false in
-    let is_shaped_says = c.is_shaped.ensures in
-    let asked = c.requires in
-    read_promised (Refused-Says ∙ rw (asked, sym is_shaped_says ∙ if1_left))
+pub returns-then-not-is_shaped : goal.returns-then-not-is_shaped
+unfolding reads read_record read_answer
+returns-then-not-is_shaped c =
+    let s : shaped c.args.plan c.args.s.now ≡ false = search rules in
+    read_promised (rw (c.requires, s))
 
 pub parse_record-r-requires : goal.parse_record-r-requires
-parse_record-r-requires c = (c.requires, sym c.is_shaped.ensures ∙ c.if-is_shaped.true)
+parse_record-r-requires c = (c.requires, search rules)
 
-pub returns-else-is_valid : goal.returns-else-is_valid
-unfolding reads read_record read_answer read_no
-returns-else-is_valid c =
-    let refused2_says = c.refused-else-is_valid.ensures in
-    let if2_left = c.if-is_valid.false in
-    let is_valid_says = c.is_valid.ensures in
-    let parse_record_says = c.parse_record-r.ensures in
-    let if1_taken = c.if-is_shaped.true in
-    let is_shaped_says = c.is_shaped.ensures in
-    let v = ap (valid c.args.plan) (sym parse_record_says) ∙ sym is_valid_says ∙ if2_left in
-    read_promised (refused2_says ∙ rw (c.requires, sym is_shaped_says ∙ if1_taken, v))
+pub returns-then-not-is_valid : goal.returns-then-not-is_valid
+unfolding reads read_record read_answer
+returns-then-not-is_valid c =
+    let s : shaped c.args.plan c.args.s.now ≡ true = search rules in
+    let v : valid c.args.plan c.parse_record-r.result ≡ false = search rules in
+    read_promised (rw (c.requires, s, ap (valid c.args.plan) (sym c.parse_record-r.ensures) ∙ v))
 
 pub returns : goal.returns
-unfolding reads read_record read_answer read_no
+unfolding reads read_record read_answer
 returns c =
-    let if2_taken = c.if-is_valid.true in
-    let is_valid_says = c.is_valid.ensures in
-    let parse_record_says = c.parse_record-r.ensures in
-    let if1_taken = c.if-is_shaped.true in
-    let is_shaped_says = c.is_shaped.ensures in
-    let v = ap (valid c.args.plan) (sym parse_record_says) ∙ sym is_valid_says ∙ if2_taken in
-    read_promised (rw (parse_record_says, c.requires, sym is_shaped_says ∙ if1_taken, v))
+    let s : shaped c.args.plan c.args.s.now ≡ true = search rules in
+    let v : valid c.args.plan c.parse_record-r.result ≡ true = search rules in
+    read_promised (rw (c.parse_record-r.ensures, c.requires, s, ap (valid c.args.plan) (sym c.parse_record-r.ensures) ∙ v))

@@ -20,7 +20,7 @@ first_fresh_length zero = refl
 first_fresh_length (suc n) = length-append (first_fresh n) (fresh (box_no n) ∷ []) ∙ rw (first_fresh_length n) (omega arith)
 
 pub loop-at-init : goal.loop-at-init
-loop-at-init c = (search rules, ap (replicate most_boxes) c.fresh_box-none.ensures)
+loop-at-init c = (search rules, ap (replicate most_boxes) c.fresh_box-boxes.ensures)
 
 pub loop-at-preserved : goal.loop-at-preserved
 loop-at-preserved c =
@@ -28,7 +28,7 @@ loop-at-preserved c =
     let none = fresh (box_no 0) in
     let put = fill_step (first_fresh l.at) most_boxes l.at none (fresh (box_no l.at)) (first_fresh_length l.at) (omega arith) in
     let more = ap (λ (f : List BoxState). f ++ replicate (most_boxes - (l.at + 1)) none) (upto_step one_more [] l.at) in
-    (omega arith, rw (l.invariant.1, c.fresh_box-x.ensures) (put ∙ more))
+    (omega arith, rw (l.invariant.1, c.fresh_box.ensures) (put ∙ more))
 
 pub returns : goal.returns
 unfolding fresh_night

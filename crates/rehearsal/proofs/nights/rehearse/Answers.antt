@@ -1,13 +1,11 @@
 -- `rehearsal::nights::rehearse` meets its contract.
-use Rattle.rehearsal.proofs.laws.Alone.{found_stands, alone_is}
-use Rattle.rehearsal.specs.Night.{box_in}
-use Rattle.rehearsal.proofs.laws.Settled.{rehearsed_no}
-use Rattle.rehearsal.specs.Steps.{Judges}
-use Rattle.post.proofs.laws.Index.{indexed_none}
+use Rattle.std.proofs.Common.{arith, refl, ◌∙◌, [], ◌∷◌}
 use Rattle.laws.proofs.laws.Choice.{never}
-use native.Mathlib.Omega.{arith}
-use mathlib.Core.List.{[], ◌∷◌}
-use mathlib.Core.Path.{refl, ◌∙◌}
+use Rattle.post.proofs.laws.Index.{indexed_none}
+use Rattle.rehearsal.specs.Night.{box_in}
+use Rattle.rehearsal.specs.Steps.{Judges}
+use Rattle.rehearsal.proofs.laws.Alone.{alone_is, found_stands}
+use Rattle.rehearsal.proofs.laws.Settled.{rehearsed_no}
 use Rattle.rehearsal.proofs.nights.rehearse.Goals as goal
 
 pub find-place-requires : goal.find-place-requires
@@ -19,34 +17,24 @@ box_at-x-requires c = c.find-place.ensures.at_low
 pub known_sound-known-requires : goal.known_sound-known-requires
 known_sound-known-requires c = λ h. never h refl
 
-pub judge-j-requires : goal.judge-j-requires
-judge-j-requires c =
-    let find_says = c.find-place.ensures in
-    let k = c.known_sound-known in let F = find_says in (k.ensures.0, k.ensures.1, F.start_low, F.starts)
+pub judge-requires : goal.judge-requires
+judge-requires c =
+    let k = c.known_sound-known in let F = c.find-place.ensures in (k.ensures.0, k.ensures.1, F.start_low, F.starts)
 
 pub carry_out-requires : goal.carry_out-requires
 carry_out-requires c =
-    let a = c.args in
-    let x = c.box_at-x in let j = c.judge-j in let F = c.find-place in
-    let J : Judges a.plan a.night.used (box_in a.night F.result.at) a.post.now a.order j.result.answer j.result.rec =
-    rw (← x.ensures) j.ensures in
-    (F.ensures.at_low, J.go c.in-Done.is)
+    let a = c.args in let F = c.find-place in
+    let J : Judges a.plan a.night.used (box_in a.night F.result.at) a.post.now a.order c.judge.result = rw (← c.box_at-x.ensures) c.judge.ensures in
+    (F.ensures.at_low, J.go _ c.in-Ok.is)
 
-pub returns-in-No : goal.returns-in-No
-returns-in-No c =
-    let a = c.args in
-    let x = c.box_at-x in let j = c.judge-j in let F = c.find-place in
-    let J : Judges a.plan a.night.used (box_in a.night F.result.at) a.post.now a.order j.result.answer j.result.rec =
-    rw (← x.ensures) j.ensures in
+pub returns-in-Ok : goal.returns-in-Ok
+returns-in-Ok c =
+    let a = c.args in let F = c.find-place in
+    c.carry_out.ensures (found_stands a.plan _ a.night a.post.now a.order _ F.result _ F.ensures)
+
+pub returns-in-Err : goal.returns-in-Err
+returns-in-Err c =
+    let a = c.args in let F = c.find-place in
+    let J : Judges a.plan a.night.used (box_in a.night F.result.at) a.post.now a.order c.judge.result = rw (← c.box_at-x.ensures) c.judge.ensures in
     let T = found_stands a.plan _ a.night a.post.now a.order _ F.result _ F.ensures in
-    rehearsed_no
-    _
-    (alone_is a.plan a.night.used (box_in a.night F.result.at) a.post.now a.order a.night F.result.at T
-    ∙ J.refuse _ c.in-No.is)
-
-pub returns-in-Done : goal.returns-in-Done
-returns-in-Done c =
-    let carry_out_says = c.carry_out.ensures in
-    let a = c.args in
-    let F = c.find-place in
-    carry_out_says (found_stands a.plan _ a.night a.post.now a.order _ F.result _ F.ensures)
+    rehearsed_no _ (alone_is a.plan a.night.used (box_in a.night F.result.at) a.post.now a.order a.night F.result.at T ∙ J.refuse _ c.in-Err.is)

@@ -4,4 +4,4 @@ use mathlib.Core.Path.{◌∙◌}
 use Rattle.rehearsal.proofs.settling.cut_only.Goals as goal
 
 pub returns : goal.returns
-returns c P = c.done.ensures ∙ rw (c.cut_box-y.ensures, encode_none P)
+returns c P = c.done.ensures ∙ rw (c.cut_box.ensures, encode_none P)

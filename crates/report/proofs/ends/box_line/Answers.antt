@@ -12,17 +12,5 @@ returns c =
     let p = c.put_titled-a in
     let q = c.put_list in
     let title = titled (98 ∷ 111 ∷ 120 ∷ []) a.number.0 in
-    let s =
-    then
-    title
-    (list_text a.list a.count)
-    a.t.now
-    p.new.t
-    q.new.t
-    p.result
-    q.result
-    p.ensures.1
-    p.ensures.2
-    q.ensures.1
-    q.ensures.2 in
+    let s = then title (list_text a.list a.count) a.t.now _ _ _ _ p.ensures.1 p.ensures.2 q.ensures.1 q.ensures.2 in
     (omega (arith, p.ensures.0, q.ensures.0), s.0, s.1)

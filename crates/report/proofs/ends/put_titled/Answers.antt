@@ -15,17 +15,5 @@ returns c =
     let p = c.put-a in
     let i = c.put_item in
     let w : length a.word.now ≡ 3 = search rules in
-    let s =
-    then
-    a.word.now
-    (item a.n)
-    a.t.now
-    p.new.t
-    i.new.t
-    p.result
-    i.result
-    p.ensures.0
-    p.ensures.1
-    i.ensures.1
-    i.ensures.2 in
+    let s = then a.word.now (item a.n) a.t.now _ _ _ _ p.ensures.0 p.ensures.1 i.ensures.1 i.ensures.2 in
     (omega (arith, w, p.ensures.0, i.ensures.0), s.0, s.1)

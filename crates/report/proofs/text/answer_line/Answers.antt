@@ -5,7 +5,7 @@ use Rattle.lines.specs.Numeral.{decimal}
 use Rattle.lines.specs.Parts.{space, line_feed}
 use Rattle.laws.proofs.laws.Tray.{then}
 use Rattle.laws.specs.Choice.{pick}
-use Prim.Native.Nat.{ℕ, ◌+◌}
+use Prim.Native.Nat.{ℕ}
 use mathlib.Core.List.{List, [], ◌∷◌, ◌++◌}
 use native.Mathlib.Omega.{arith}
 use borrow.Author.Rules.{rules}
@@ -24,30 +24,6 @@ returns c =
     let d = c.put_decimal in
     let p = c.put in
     let head : List ℕ = pick a.refused (110 ∷ 111 ∷ space ∷ []) (111 ∷ 107 ∷ space ∷ []) in
-    let s =
-    then
-    head
-    (decimal a.n)
-    a.t.now
-    h.new.t
-    d.new.t
-    h.result
-    d.result
-    h.ensures.1
-    h.ensures.2
-    d.ensures.1
-    d.ensures.2 in
-    let u =
-    then
-    (head ++ decimal a.n)
-    (line_feed ∷ [])
-    a.t.now
-    _
-    p.new.t
-    (h.result + d.result)
-    p.result
-    s.0
-    s.1
-    p.ensures.0
-    p.ensures.1 in
+    let s = then head (decimal a.n) a.t.now _ _ _ _ h.ensures.1 h.ensures.2 d.ensures.1 d.ensures.2 in
+    let u = then (head ++ decimal a.n) (line_feed ∷ []) a.t.now _ _ _ _ s.0 s.1 p.ensures.0 p.ensures.1 in
     (omega (arith, h.ensures.0, d.ensures.0, p.ensures.0), u.0, u.1)

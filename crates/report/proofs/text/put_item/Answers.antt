@@ -21,17 +21,5 @@ returns c =
     let p = c.put-a in
     let d = c.put_decimal in
     let m = byte_short a.n (omega arith) in
-    let s =
-    then
-    (space ∷ [])
-    (decimal a.n)
-    a.t.now
-    p.new.t
-    d.new.t
-    p.result
-    d.result
-    p.ensures.0
-    p.ensures.1
-    d.ensures.1
-    d.ensures.2 in
+    let s = then (space ∷ []) (decimal a.n) a.t.now _ _ _ _ p.ensures.0 p.ensures.1 d.ensures.1 d.ensures.2 in
     (omega (arith, p.ensures.0, d.ensures.1, m), s.0, s.1)

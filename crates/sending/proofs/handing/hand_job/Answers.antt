@@ -21,12 +21,12 @@ sending : (P : Plan) (s : plan_sound P ≡ true) (own : BoxNo) (b : Ballot) (row
 unfolding delivers_from fresh
 sending P s own b row j = delivers_sent P s own (fresh own) j (record { ballot = b; local = row.local; global = row.global })
 
-pub home_boxes-meant-requires : goal.home_boxes-meant-requires
-home_boxes-meant-requires c = c.requires.0
+pub home_boxes-requires : goal.home_boxes-requires
+home_boxes-requires c = c.requires.0
 
 pub send-requires : goal.send-requires
 send-requires c =
-    let meant_says = c.home_boxes-meant.ensures in let record_says = c.deliver_record-r.ensures in
+    let meant_says = c.home_boxes.ensures in let record_says = c.deliver_record-r.ensures in
     let a = c.args in let asked = c.requires in
     let w = sending a.plan asked.0 a.own a.b a.row a.job in
     (asked.0, rw (meant_says, record_says, ← w.bytes) asked.1)
@@ -34,7 +34,7 @@ send-requires c =
 pub returns : goal.returns
 returns c =
     let q = c.send in
-    let m = c.home_boxes-meant.ensures in
+    let m = c.home_boxes.ensures in
     let e = c.deliver_record-r.ensures in
     let a = c.args in let asked = c.requires in
     let w = sending a.plan asked.0 a.own a.b a.row a.job in

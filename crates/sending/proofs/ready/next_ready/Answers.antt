@@ -1,40 +1,43 @@
 -- `sending::ready::next_ready` meets its contract.
-use mathlib.Core.Path.{◌≡◌, sym, ap, ◌∙◌}
-use native.Mathlib.Omega.{arith}
-use lib.ListN.{length}
-use Rattle.boxes.specs.Ready.{next_below}
-use Rattle.sending.proofs.laws.Next.{Best, best_none, best_taken, best_left}
-use borrow.Author.Rules.{rules}
+use Rattle.std.proofs.Common.{rules, ◌≡◌, true, false, eqb, get_or, take}
+use Rattle.std.proofs.lemmas.List.{get_or-take}
+use mathlib.Core.Bool.{and-false}
+use borrow.Author.Tests.{eq-eqb, ne_eqb}
+use Rattle.house.specs.Pairs.{no_row}
+use Rattle.sending.proofs.laws.Next.{best_none, best_taken, best_left}
 use Rattle.sending.proofs.ready.next_ready.Goals as goal
-use Rattle.sending.proofs.ready.next_ready.Goals.{then-waits-best+then-open_above, then-waits-best+else-open_above, else-waits-best}
+use Rattle.sending.proofs.ready.next_ready.Goals.{
+  then-row-eq-COMMITTED+then-not-sent-j+then-goes_before+then-open_above,
+  else-row-eq-COMMITTED,
+  else-row-eq-COMMITTED-via-then-row-eq-COMMITTED+then-not-sent-j+then-goes_before+else-open_above,
+  else-row-eq-COMMITTED-via-then-row-eq-COMMITTED+then-not-sent-j+else-goes_before,
+  else-row-eq-COMMITTED-via-then-row-eq-COMMITTED+else-not-sent-j,
+  else-row-eq-COMMITTED-via-else-row-eq-COMMITTED,
+}
 
 pub loop-j-init : goal.loop-j-init
-loop-j-init c =
-    let a = c.args in let e : length a.table ≡ 64 = search rules in
-    (search rules, c.requires, rw c.no_stamp-least.ensures (best_none a.table a.sent a.n e))
+loop-j-init c = best_none c.args.table c.args.sent c.args.n
 
--- the job was taken, or not all open jobs are above it, or it does not go before the best
 pub loop-j-preserved : goal.loop-j-preserved
 loop-j-preserved c =
-    let e = c.stamp_below.ensures in
-    let a = c.args in
-    let l = c.loop-j in let b = l.invariant.2 in (
-      omega arith,
-      l.invariant.1,
-      elim c.if-waits-best.branch [
-        | then-waits-best+then-open_above w ↦
-            rw (w.best-is, w.least-is)
-            (best_taken a.table a.sent a.n b (rw e at w.if-waits-best.true) (λ P x en et. sym w.if-open_above.true ∙ w.open_above.ensures P x en et))
-        | then-waits-best+else-open_above w ↦
-            rw (w.best-is, w.least-is)
-            (best_left a.table a.sent a.n b (λ P x en et. rw (← w.open_above.ensures P x en et, w.if-open_above.false, rw e at w.if-waits-best.true)))
-        | else-waits-best w ↦
-            rw (w.best-is, w.least-is) (best_left a.table a.sent a.n b (λ P x en et. rw (rw e at w.if-waits-best.false)))
-      ],
-    )
-
-pub returns : goal.returns
-returns c =
-    let a = c.args in let l = c.loop-j in let e : l.j ≡ a.n = omega arith in
-    let b : Best a.table a.sent a.n a.n l.best l.least = rw e at l.invariant.2 in
-    (λ P x en et es. b.next P x en et es ∙ ap (next_below P x) (sym en), b.low)
+    let a = c.args in let l = c.loop-j in
+    let r = get_or (take a.n a.table) l.j no_row in
+    let e : r ≡ get_or a.table l.j no_row = get_or-take a.n a.table l.j no_row (search rules) in
+    let taken = best_taken a.table a.sent a.n l.invariant (search rules) in
+    let left = best_left a.table a.sent a.n l.invariant (search rules) in
+    elim c.if-row-eq-COMMITTED.branch [
+      | then-row-eq-COMMITTED+then-not-sent-j+then-goes_before+then-open_above w ↦
+          let phase : eqb r.phase 3 ≡ true = eq-eqb r.phase 3 w.if-row-eq-COMMITTED.true in
+          rw w.best-is (taken (λ P x en et.
+          rw (← e, phase, w.if-not-sent-j.true, ← w.goes_before.ensures, w.if-goes_before.true, ← w.open_above.ensures P x en et, w.if-open_above.true)))
+      | else-row-eq-COMMITTED w ↦
+          rw w.best-is (left (elim w.else-row-eq-COMMITTED.branch [
+            | else-row-eq-COMMITTED-via-then-row-eq-COMMITTED+then-not-sent-j+then-goes_before+else-open_above v ↦
+                λ P x en et. rw (← e, ← v.open_above.ensures P x en et, v.if-open_above.false) (and-false _)
+            | else-row-eq-COMMITTED-via-then-row-eq-COMMITTED+then-not-sent-j+else-goes_before v ↦
+                λ P x en et. rw (← e, ← v.goes_before.ensures, v.if-goes_before.false, and-false)
+            | else-row-eq-COMMITTED-via-then-row-eq-COMMITTED+else-not-sent-j v ↦ λ P x en et. rw (v.if-not-sent-j.false, and-false)
+            | else-row-eq-COMMITTED-via-else-row-eq-COMMITTED v ↦
+                let phase : eqb r.phase 3 ≡ false = ne_eqb r.phase 3 v.if-row-eq-COMMITTED.false in λ P x en et. rw (← e, phase)
+          ]))
+    ]

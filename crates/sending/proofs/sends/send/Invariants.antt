@@ -10,10 +10,10 @@ use Rattle.sending.proofs.sends.send.Given as goal
 
 abbrev pub invariant-loop-p : goal.invariant-loop-p
 invariant-loop-p l =
-    (l.p ≤ l.n) × (l.n ≡ boxes_of l.plan) × (l.n ≤ most_boxes) × (length l.t ≡ length l.initial.t)
-    × (length (all_for (sent_to l.plan l.meant l.initial.q) l.n) ≤ length l.initial.t)
-    × (l.used ≡ length (all_for (sent_to l.plan l.meant l.initial.q) l.p)) × (l.records ≡ meant_below l.meant l.p) × (l.records ≤ l.p)
-    × (l.t ≡ onto (all_for (sent_to l.plan l.meant l.initial.q) l.p) l.initial.t) × (l.used ≤ length l.initial.t) × (l.q ≡ addressed l.initial.q l.q.to)
+    (l.p ≤ l.p-end) × (l.p-end ≡ boxes_of l.plan) × (l.p-end ≤ most_boxes) × (length l.t ≡ length l.initial.t)
+    × (length (all_for (sent_to l.plan l.meant l.initial.r) l.p-end) ≤ length l.initial.t)
+    × (l.used ≡ length (all_for (sent_to l.plan l.meant l.initial.r) l.p)) × (l.records ≡ meant_below l.meant l.p) × (l.records ≤ l.p)
+    × (l.t ≡ onto (all_for (sent_to l.plan l.meant l.initial.r) l.p) l.initial.t) × (l.used ≤ length l.initial.t) × (l.r ≡ addressed l.initial.r l.r.to)
 
 abbrev pub decreases-loop-p : goal.decreases-loop-p
-decreases-loop-p l = l.n - l.p
+decreases-loop-p l = l.p-end - l.p

@@ -81,20 +81,19 @@ overflow_add-text c =
 pub bounds-known-at-then-a : goal.bounds-known-at-then-a
 bounds-known-at-then-a c = at_low c.loop-from.invariant c.ask-a.ensures c.if-a.true
 
-pub offset_bounds-boxes-at-then-r : goal.offset_bounds-boxes-at-then-r
-offset_bounds-boxes-at-then-r c = let g : c.ask-a.result.at < most_boxes = at_low c.loop-from.invariant c.ask-a.ensures c.if-a.true in omega arith
+pub offset_bounds-boxes-at-in-Some : goal.offset_bounds-boxes-at-in-Some
+offset_bounds-boxes-at-in-Some c = let g : c.ask-a.result.at < most_boxes = at_low c.loop-from.invariant c.ask-a.ensures c.if-a.true in omega arith
 
-pub bounds-boxes-at-then-r : goal.bounds-boxes-at-then-r
-bounds-boxes-at-then-r c = at_low c.loop-from.invariant c.ask-a.ensures c.if-a.true
+pub bounds-boxes-at-in-Some : goal.bounds-boxes-at-in-Some
+bounds-boxes-at-in-Some c = at_low c.loop-from.invariant c.ask-a.ensures c.if-a.true
 
-pub loop-from-smaller-then-r : goal.loop-from-smaller-then-r
-loop-from-smaller-then-r c =
+pub loop-from-smaller-in-Some : goal.loop-from-smaller-in-Some
+loop-from-smaller-in-Some c =
     let A = c.ask-a.ensures in
     omega (arith, A.up, A.low)
 
-pub loop-from-preserved-then-r : goal.loop-from-preserved-then-r
-loop-from-preserved-then-r c =
-    let if2_taken = c.if-r.true in
+pub loop-from-preserved-in-Some : goal.loop-from-preserved-in-Some
+loop-from-preserved-in-Some c =
     steps
     c.loop-from.invariant
     c.ask-a.ensures
@@ -104,16 +103,16 @@ loop-from-preserved-then-r c =
     c.turn-r.ensures
     c.turn-r.auto.post
     (search rules)
-    if2_taken
+    _
+    c.in-Some.is
 
-pub loop-from-smaller-else-r : goal.loop-from-smaller-else-r
-loop-from-smaller-else-r c =
+pub loop-from-smaller-in_default : goal.loop-from-smaller-in_default
+loop-from-smaller-in_default c =
     let A = c.ask-a.ensures in
     omega (arith, A.up, A.low)
 
-pub loop-from-preserved-else-r : goal.loop-from-preserved-else-r
-loop-from-preserved-else-r c =
-    let if2_left = c.if-r.false in
+pub loop-from-preserved-in_default : goal.loop-from-preserved-in_default
+loop-from-preserved-in_default c =
     passes
     c.loop-from.invariant
     c.ask-a.ensures
@@ -123,7 +122,7 @@ loop-from-preserved-else-r c =
     c.turn-r.ensures
     c.turn-r.auto.post
     (search rules)
-    if2_left
+    c.in_default.is
 
 pub loop-from-smaller : goal.loop-from-smaller
 loop-from-smaller c =

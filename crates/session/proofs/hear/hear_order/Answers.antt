@@ -1,42 +1,34 @@
 -- `session::hear::hear_order` meets its contract.
-use mathlib.Core.Path.{refl}
-use Rattle.laws.proofs.laws.Choice.{never}
-use borrow.Author.Rules.{rules}
+use Rattle.std.proofs.Common.{rules, refl, subst}
+use Rattle.rehearsal.specs.Steps.{Goes}
+use Rattle.session.proofs.laws.Hears.{some_none, some_is}
 use Rattle.session.proofs.hear.hear_order.Goals as goal
 
-pub known_sound-sure-requires : goal.known_sound-sure-requires
-known_sound-sure-requires c = c.requires.1
+pub known_sound-known-requires : goal.known_sound-known-requires
+known_sound-known-requires c = c.requires.1
 
-pub judge-j-requires : goal.judge-j-requires
-judge-j-requires c =
-    let p = c.requires in
-    let k = c.known_sound-sure in (k.ensures.0, k.ensures.1, p.2, p.3)
+pub judge-requires : goal.judge-requires
+judge-requires c = let p = c.requires in let k = c.known_sound-known in (k.ensures.0, k.ensures.1, p.2, p.3)
 
-pub returns-in-No : goal.returns-in-No
-returns-in-No c =
-    let known_sound_says = c.known_sound-sure.ensures in
-    let j = c.judge-j in let l = c.answer_line-text in let f = c.fix-fixed in
+pub returns-in-Ok : goal.returns-in-Ok
+returns-in-Ok c =
+    let a = c.args in
     record {
-      refuse =
-          λ q. (
-            _,
-            j.ensures.refuse _ c.in-No.is,
-            record { desk_is = f.ensures; long = l.ensures.1; most = l.ensures.0; text_is = l.ensures.2 },
-          );
-      go = λ q. never q refl;
-      fixed = f.ensures;
-      most = l.ensures.0;
-      known = known_sound_says.0;
+      refuse = λ q. some_none refl q;
+      go = λ r q. (subst (Goes a.desk.plan a.used a.x a.post.now a.order) (some_is q) (c.judge.ensures.go _ c.in-Ok.is), refl, refl);
+      fixed = c.fix-fixed.ensures;
+      most = search rules;
+      known = c.known_sound-known.ensures.0;
     }
 
-pub returns-in-Done : goal.returns-in-Done
-returns-in-Done c =
-    let known_sound_says = c.known_sound-sure.ensures in
-    let j = c.judge-j in let f = c.fix-fixed in
+pub returns-in-Err : goal.returns-in-Err
+returns-in-Err c =
+    let l = c.say_no-text.ensures in
     record {
-      refuse = λ q. never refl q;
-      go = λ q. (j.ensures.go c.in-Done.is, refl, refl);
-      fixed = f.ensures;
-      most = search rules;
-      known = known_sound_says.0;
+      refuse =
+          λ q. (_, c.judge.ensures.refuse _ c.in-Err.is, record { desk_is = c.fix-fixed.ensures; long = l.1; most = l.0; text_is = l.2 });
+      go = λ r q. some_none q refl;
+      fixed = c.fix-fixed.ensures;
+      most = l.0;
+      known = c.known_sound-known.ensures.0;
     }

@@ -1,50 +1,21 @@
 -- `session::turn::turn` meets its contract.
-use Rattle.session.proofs.laws.Turned.{turns_passed, can_step, can_finish, turns_gone}
-use mathlib.Core.Path.{refl, sym}
+use Rattle.std.proofs.Common.{refl}
+use Rattle.session.proofs.laws.Turned.{turns_passed, can_step, can_finish, turns_gone, turns_full}
 use Rattle.session.proofs.turn.turn.Goals as goal
 
-pub hear-h-requires : goal.hear-h-requires
-hear-h-requires c =
-    let asked = c.requires in
-    asked
-
-pub slice_bounds-step-end : goal.slice_bounds-step-end
-slice_bounds-step-end c = refl
+pub returns-in_default : goal.returns-in_default
+returns-in_default c = turns_passed c.hear-h.ensures c.in_default.is
 
 pub step-out-requires : goal.step-out-requires
-step-out-requires c =
-    let order_of_says = c.order_of-order.ensures in
-    let if1_taken = c.if-h.true in
-    let hear_says = c.hear-h.ensures in
-    let s = can_step hear_says if1_taken order_of_says in (s.0, s.1, s.2, refl)
-
-pub slice_bounds-finish-end : goal.slice_bounds-finish-end
-slice_bounds-finish-end c = sym c.step-out.auto.tray
+step-out-requires c = let s = can_step c.hear-h.ensures c.in-Some.is c.order_of.ensures in (s.0, s.1, s.2, refl)
 
 pub finish-f-requires : goal.finish-f-requires
-finish-f-requires c =
-    can_finish
-    c.hear-h.ensures
-    c.if-h.true
-    c.order_of-order.ensures
-    _
-    c.step-out.ensures
-    c.step-out.auto.tray
-    c.requires.0
+finish-f-requires c = can_finish c.hear-h.ensures c.in-Some.is c.order_of.ensures _ c.step-out.ensures c.step-out.auto.tray c.requires.0
 
-pub returns-then-h : goal.returns-then-h
-returns-then-h c =
-    turns_gone
-    c.hear-h.ensures
-    c.if-h.true
-    c.order_of-order.ensures
-    _
-    c.step-out.ensures
-    c.step-out.auto.tray
-    c.finish-f.ensures
+pub returns-in-Some-used : goal.returns-in-Some-used
+returns-in-Some-used c =
+    turns_gone c.hear-h.ensures c.in-Some.is c.order_of.ensures _ c.step-out.ensures c.step-out.auto.tray c.finish-f.ensures c.in-Some-used.is
 
-pub returns : goal.returns
-returns c =
-    let if1_left = c.if-h.false in
-    let hear_says = c.hear-h.ensures in
-    turns_passed hear_says if1_left
+pub returns-in-None : goal.returns-in-None
+returns-in-None c =
+    turns_full c.hear-h.ensures c.in-Some.is c.order_of.ensures _ c.step-out.ensures c.step-out.auto.tray c.finish-f.ensures c.in-None.is

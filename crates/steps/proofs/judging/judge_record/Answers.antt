@@ -2,15 +2,8 @@
 use borrow.Author.Tests.{eq-eqb, ne_eqb}
 use Rattle.steps.proofs.judging.judge_record.Goals as goal
 
-pub returns-then-to-own : goal.returns-then-to-own
-returns-then-to-own c =
-    let judge_says = c.judge.ensures in
-    let if1_taken = c.if-to-own.true in
-    let a = c.args in
-    rw (eq-eqb a.r.to.0 a.x.core.own.0 if1_taken) judge_says
+pub returns-then-r-x : goal.returns-then-r-x
+returns-then-r-x c = rw (eq-eqb c.args.r.to.0 c.args.x.core.own.0 c.if-r-x.true) c.judge.ensures
 
 pub returns : goal.returns
-returns c =
-    let if1_left = c.if-to-own.false in
-    let a = c.args in
-    rw (ne_eqb a.r.to.0 a.x.core.own.0 if1_left)
+returns c = rw (ne_eqb c.args.r.to.0 c.args.x.core.own.0 c.if-r-x.false)

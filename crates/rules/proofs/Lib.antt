@@ -1,2 +1,0 @@
--- What the proofs of this room share, and what others may cite.
-pub mod laws

@@ -1,2 +1,0 @@
--- The laws of rules.
-pub mod Ends
