@@ -34,6 +34,7 @@ pub struct Listed {
 }
 
 // what survives a cut
+// Stays: a list with its count beside it, since the project's rule of fixed memory allows no Vec.
 #[derive(Clone, Copy)]
 pub struct Core {
     pub own: BoxNo,
@@ -47,6 +48,8 @@ pub struct Core {
     pub list: [Listed; house::JOBS],
 }
 
+// a vote that is held, or none
+// Stays: a flag beside the values, since `no_vote` of specs/Box.antt and `unvoted` of specs/Sound.antt, which may not change, say what no vote has in them.
 #[derive(Clone, Copy)]
 pub struct Vote {
     pub held: bool,

@@ -56,6 +56,7 @@ pub fn marks_at(x: BoxState, job: u8) -> u32
 }
 
 // where the ACCEPT for a job and a district is kept
+// Stays: a place of one array and no row of rows, since `kept_at` and `fresh` of specs/Box.antt, which may not change, count its places.
 #[tactic(auto, unfolding(crate::specs::Box::kept_at))]
 pub fn kept_at(job: usize, d: District) -> usize
     requires { job < 256 }

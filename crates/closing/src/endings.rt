@@ -26,6 +26,7 @@ pub fn jobs_of(x: BoxState) -> [u8; house::JOBS]
 }
 
 // how many jobs of its list are shown
+#[tactic(auto, using(laws::proofs::laws::Choice::min_pick), unfolding(crate::specs::Endings::shown_of))]
 pub fn shown_of(x: BoxState) -> usize
     ensures { (result ≡ shown_of x) × (result ≤ most_jobs) }
 {

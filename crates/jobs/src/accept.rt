@@ -2,48 +2,43 @@
 // The definition, on_accept, stands in specs/Accept.antt of boxes.
 ghost use Rattle.std.specs.Prelude.{◌≡◌, ◌<◌, ◌≤◌, true, length};
 ghost use Rattle.house.specs.Limits.{most_districts, most_jobs};
-ghost use Rattle.laws.specs.Choice.{pick};
-ghost use Rattle.house.specs.Marks.{no_marks, marks_of};
+ghost use Rattle.house.specs.Marks.{marks_of};
 ghost use Rattle.boxes.specs.Accept.{ballot_fits, stamp_fits, same_kept, kept, kept_below, all_kept, latest_kept, accepted_row, accepted, kept_leader, when_kept, on_accept, accept_answer};
-ghost use Rattle.boxes.specs.Box.{kept_stamp};
-ghost use Rattle.house.specs.Pairs.{later_stamp};
-ghost use Rattle.house.specs.Plan.{boxes_of, names, home_of, plan_sound};
+ghost use Rattle.house.specs.Plan.{boxes_of, home_of, plan_sound};
 ghost use Rattle.laws.specs.Tray.{onto};
 ghost use Rattle.records.specs.Answers.{done};
 ghost use Rattle.records.specs.Bytes.{encode_all};
 ghost use Rattle.boxes.specs.Out.{result_of, records_of};
 
-use boxes::{BoxState, Outcome};
+use boxes::{BoxState, Outcome, Status};
 use house::{BoxNo, District, Plan, Row, Stamp};
 use records::{Answer, Proposal, Refusal};
 
 // 2 ACCEPT: the own district's ballot must be cballot, another's not below the kept one
-#[tactic(auto, unfolding(boxes::specs::Accept::ballot_fits, laws::specs::Choice::pick))]
+#[tactic(auto, unfolding(boxes::specs::Accept::ballot_fits, laws::specs::Choice::pick, house::specs::Pairs::same_ballot, house::specs::Pairs::ballot_lt))]
 fn ballot_fits(plan: Plan, x: BoxState, job: u8, d: District, y: Proposal) -> bool
     ensures { result ≡ ballot_fits plan x job d y }
 {
-    if d.0 == boxes::home_in(plan, x).0 {
-        return house::same_ballot(y.ballot, x.core.cballot);
+    if d == boxes::home_in(plan, x) {
+        return y.ballot == x.core.cballot;
     }
-    !house::ballot_below(y.ballot, boxes::kept_ballot(x, job, d))
+    y.ballot >= boxes::kept_ballot(x, job, d)
 }
 
 // an equal ballot with another stamp is refused
-#[tactic(auto, unfolding(boxes::specs::Accept::stamp_fits))]
+#[tactic(auto, unfolding(boxes::specs::Accept::stamp_fits, house::specs::Pairs::same_ballot, house::specs::Pairs::same_stamp))]
 fn stamp_fits(x: BoxState, job: u8, d: District, y: Proposal) -> bool
     ensures { result ≡ stamp_fits x job d y }
 {
-    !house::same_ballot(y.ballot, boxes::kept_ballot(x, job, d))
-        | house::same_stamp(y.stamp, boxes::kept_stamp(x, job, d))
+    y.ballot != boxes::kept_ballot(x, job, d) || y.stamp == boxes::kept_stamp(x, job, d)
 }
 
 // the same ACCEPT is kept already
-#[tactic(auto, unfolding(boxes::specs::Accept::same_kept))]
+#[tactic(auto, unfolding(boxes::specs::Accept::same_kept, house::specs::Pairs::same_ballot, house::specs::Pairs::same_stamp))]
 fn same_kept(x: BoxState, job: u8, d: District, y: Proposal) -> bool
     ensures { result ≡ same_kept x job d y }
 {
-    house::same_ballot(y.ballot, boxes::kept_ballot(x, job, d))
-        & house::same_stamp(y.stamp, boxes::kept_stamp(x, job, d))
+    y.ballot == boxes::kept_ballot(x, job, d) && y.stamp == boxes::kept_stamp(x, job, d)
 }
 
 #[tactic(auto, unfolding(boxes::specs::Accept::accept_answer))]
@@ -53,33 +48,27 @@ pub fn decide_accept(plan: Plan, x: BoxState, from: BoxNo, job: u8, y: Proposal)
     if !house::named(plan, job, boxes::home_in(plan, x)) {
         return Err(Refusal::NotNamed);
     }
-    if boxes::is_recovering(x.core.status) {
+    if x.core.status == Status::Recovering {
         return Err(Refusal::WrongStatus);
     }
     let d = house::home_of(plan, from);
-    if !(ballot_fits(plan, x, job, d, y) & stamp_fits(x, job, d, y)) {
+    if !(ballot_fits(plan, x, job, d, y) && stamp_fits(x, job, d, y)) {
         return Err(Refusal::WrongBallot);
     }
     Ok(())
 }
 
-// a change clears the marks
-#[tactic(auto, unfolding(laws::specs::Choice::pick))]
-fn marks_after(same: bool, marks: u32) -> u32
-    ensures { result ≡ pick same marks no_marks }
-{
-    if same {
-        return marks;
-    }
-    house::no_marks()
-}
-
-#[tactic(auto, unfolding(boxes::specs::Accept::kept))]
+// keep it; a change clears the marks
+#[tactic(auto, unfolding(boxes::specs::Accept::kept, laws::specs::Choice::pick))]
 fn keep(x: BoxState, job: u8, d: District, y: Proposal) -> BoxState
     requires { (job < most_jobs) × (d.0 < most_districts) }
     ensures { result ≡ kept x job d y }
 {
-    let marks = marks_after(same_kept(x, job, d, y), boxes::marks_at(x, job));
+    let marks = if same_kept(x, job, d, y) {
+        boxes::marks_at(x, job)
+    } else {
+        house::no_marks()
+    };
     boxes::put_kept(x, job as usize, d, y.ballot, y.stamp, marks)
 }
 
@@ -87,43 +76,32 @@ fn keep(x: BoxState, job: u8, d: District, y: Proposal) -> BoxState
 fn kept_below(plan: Plan, x: BoxState, job: u8, n: u8) -> bool
     ensures { result ≡ kept_below plan x job n }
 {
-    let mut ok = true;
-    for d in 0..n {
-        let b = boxes::kept_ballot(x, job, District(d));
-        ok = ok & (!house::named(plan, job, District(d)) | !house::is_no_ballot(b));
-    }
-    ok
+    (0..n).all(|d| {
+        let d = District(d);
+        !house::named(plan, job, d) || boxes::kept_ballot(x, job, d) != house::no_ballot()
+    })
 }
 
 // all named districts are kept, and the own one has cballot
-#[tactic(auto, unfolding(boxes::specs::Accept::all_kept))]
+#[tactic(auto, unfolding(boxes::specs::Accept::all_kept, house::specs::Pairs::same_ballot))]
 fn all_kept(plan: Plan, x: BoxState, job: u8) -> bool
     ensures { result ≡ all_kept plan x job }
 {
     let own = boxes::kept_ballot(x, job, boxes::home_in(plan, x));
-    kept_below(plan, x, job, plan.districts) & house::same_ballot(own, x.core.cballot)
-}
-
-// the larger of a stamp and the one kept for a district, if that is named
-#[tactic(auto, unfolding(laws::specs::Choice::pick))]
-fn later_kept(plan: Plan, x: BoxState, job: u8, s: Stamp, d: District) -> Stamp
-    ensures { result ≡ pick (names plan job d) (later_stamp s (kept_stamp x job d)) s }
-{
-    if house::named(plan, job, d) {
-        return house::later_stamp(s, boxes::kept_stamp(x, job, d));
-    }
-    s
+    kept_below(plan, x, job, plan.districts) && own == x.core.cballot
 }
 
 // the largest of the stamps kept for the named ones of the first n districts
 pub fn latest_kept(plan: Plan, x: BoxState, job: u8, n: u8) -> Stamp
     ensures { result ≡ latest_kept plan x job n }
 {
-    let mut s = house::no_stamp();
-    for d in 0..n {
-        s = later_kept(plan, x, job, s, District(d));
-    }
-    s
+    (0..n)
+        .map(District)
+        .filter(|d| house::named(plan, job, *d))
+        .fold(
+            house::no_stamp(),
+            |s, d| s.max(boxes::kept_stamp(x, job, d)),
+        )
 }
 
 // phase 0 or 1 becomes 2; unless phase 3, the own stamp is stored (H)
@@ -158,20 +136,14 @@ fn kept_leaders(plan: Plan, x: BoxState, job: u8) -> u32
     requires { plan_sound plan ≡ true }
     ensures { result ≡ marks_of (kept_leader plan x job) (boxes_of plan) }
 {
-    let n = house::boxes_of(plan);
-    let mut marks = house::no_marks();
-    for p in 0..n {
-        let to = BoxNo(p as u8);
-        let home = house::home_of(plan, to);
-        let b = boxes::kept_ballot(x, job, home);
-        let leader = b.owner;
-        let meant = house::named(plan, job, home) & (leader.0 == to.0);
-        marks = house::mark_if(meant, marks, to);
-    }
-    marks
+    house::boxes_where(plan, |p| {
+        let home = house::home_of(plan, p);
+        house::named(plan, job, home) && boxes::kept_ballot(x, job, home).owner == p
+    })
 }
 
 // 2 ACCEPT, once it is kept
+#[tactic(auto, unfolding(boxes::specs::Accept::when_kept, laws::specs::Choice::pick), using(crate::proofs::laws::Steps::sent_acks, sending::proofs::laws::Sends::sends_as, records::proofs::laws::Bytes::encode_none, laws::proofs::laws::Tray::onto_nil))]
 fn when_kept(plan: Plan, x: BoxState, job: u8, tray: &mut [u8]) -> Outcome
     requires { (plan_sound plan ≡ true) × (job < most_jobs) × (length (encode_all plan (records_of (when_kept plan x job))) ≤ length tray.old) }
     ensures { (result ≡ result_of plan x (when_kept plan x job)) × (tray.new ≡ onto (encode_all plan (records_of (when_kept plan x job))) tray.old) }
@@ -186,6 +158,7 @@ fn when_kept(plan: Plan, x: BoxState, job: u8, tray: &mut [u8]) -> Outcome
 }
 
 // 2 ACCEPT
+#[tactic(auto, unfolding(boxes::specs::Accept::on_accept), using(crate::proofs::laws::Steps::kept_result))]
 pub fn do_accept(
     plan: Plan,
     x: BoxState,

@@ -12,7 +12,7 @@ ghost use Rattle.records.specs.Bytes.{encode_all};
 ghost use Rattle.boxes.specs.Out.{result_of, records_of};
 
 use crate::accept;
-use boxes::{BoxState, Outcome};
+use boxes::{BoxState, Outcome, Status};
 use house::{Ballot, BoxNo, District, Plan, Row};
 use records::{Answer, Refusal};
 
@@ -20,22 +20,19 @@ use records::{Answer, Refusal};
 fn agree_below(plan: Plan, x: BoxState, job: u8, ballots: [Ballot; house::DISTRICTS], n: u8) -> bool
     ensures { result ≡ agree_below plan x job ballots n }
 {
-    let mut ok = true;
-    for d in 0..n {
-        let b = rules::ballot_at(ballots, District(d));
-        let old = boxes::kept_ballot(x, job, District(d));
-        ok = ok & (!house::named(plan, job, District(d)) | house::same_ballot(b, old));
-    }
-    ok
+    (0..n).all(|d| {
+        let d = District(d);
+        !house::named(plan, job, d) || rules::ballot_at(ballots, d) == boxes::kept_ballot(x, job, d)
+    })
 }
 
 // and the own one equals cballot
-#[tactic(auto, unfolding(boxes::specs::AcceptAck::agree))]
+#[tactic(auto, unfolding(boxes::specs::AcceptAck::agree, house::specs::Pairs::same_ballot))]
 fn all_agree(plan: Plan, x: BoxState, job: u8, ballots: [Ballot; house::DISTRICTS]) -> bool
     ensures { result ≡ agree plan x job ballots }
 {
     let own = rules::ballot_at(ballots, boxes::home_in(plan, x));
-    agree_below(plan, x, job, ballots, plan.districts) & house::same_ballot(own, x.core.cballot)
+    agree_below(plan, x, job, ballots, plan.districts) && own == x.core.cballot
 }
 
 #[tactic(auto, unfolding(boxes::specs::AcceptAck::accept_ack_answer))]
@@ -51,7 +48,7 @@ pub fn decide_accept_ack(
     if !house::named(plan, job, boxes::home_in(plan, x)) {
         return Err(Refusal::NotNamed);
     }
-    if !boxes::is_leader(x.core.status) {
+    if x.core.status != Status::Leader {
         return Err(Refusal::WrongStatus);
     }
     if !all_agree(plan, x, job, ballots) {
@@ -78,7 +75,7 @@ fn is_enough(plan: Plan, x: BoxState, job: u8) -> bool
     ensures { result ≡ enough plan x job }
 {
     let marks = boxes::marks_at(x, job);
-    house::has_mark(marks, x.core.own) & house::quorum_each(plan, job, marks)
+    house::has_mark(marks, x.core.own) && house::quorum_each(plan, job, marks)
 }
 
 // phase 3, global stamp the largest kept, local the own kept (H)
@@ -96,6 +93,7 @@ fn commit(plan: Plan, x: BoxState, job: u8) -> BoxState
 }
 
 // 3 ACCEPT_ACK, once it is marked
+#[tactic(auto, unfolding(boxes::specs::AcceptAck::when_marked, laws::specs::Choice::pick), using(records::proofs::laws::Bytes::encode_none, laws::proofs::laws::Tray::onto_nil))]
 fn when_marked(plan: Plan, x: BoxState, job: u8, tray: &mut [u8]) -> Outcome
     requires { (plan_sound plan ≡ true) × (job < most_jobs) × (length (encode_all plan (records_of (when_marked plan x job))) ≤ length tray.old) }
     ensures { (result ≡ result_of plan x (when_marked plan x job)) × (tray.new ≡ onto (encode_all plan (records_of (when_marked plan x job))) tray.old) }
@@ -110,6 +108,7 @@ fn when_marked(plan: Plan, x: BoxState, job: u8, tray: &mut [u8]) -> Outcome
 }
 
 // 3 ACCEPT_ACK
+#[tactic(auto, unfolding(boxes::specs::AcceptAck::on_accept_ack), using(crate::proofs::laws::Steps::marked_result))]
 pub fn do_accept_ack(
     plan: Plan,
     x: BoxState,

@@ -6,25 +6,25 @@ ghost use Rattle.boxes.specs.Deliver.{delivered, on_deliver, deliver_answer};
 ghost use Rattle.records.specs.Answers.{done};
 ghost use Rattle.boxes.specs.Out.{result_of};
 
-use boxes::{BoxState, Outcome};
+use boxes::{BoxState, Outcome, Status};
 use house::{Plan, Row};
 use records::{Answer, Handout, Refusal};
 
 // 4 DELIVER: not recovering; ballot is cballot; stamp above the last delivered and job not on the list
-#[tactic(auto, unfolding(boxes::specs::Deliver::deliver_answer))]
+#[tactic(auto, unfolding(boxes::specs::Deliver::deliver_answer, house::specs::Pairs::same_ballot, house::specs::Pairs::stamp_lt))]
 pub fn decide_deliver(plan: Plan, x: BoxState, job: u8, y: Handout) -> Answer
     ensures { result ≡ deliver_answer plan x job y }
 {
     if !house::named(plan, job, boxes::home_in(plan, x)) {
         return Err(Refusal::NotNamed);
     }
-    if boxes::is_recovering(x.core.status) {
+    if x.core.status == Status::Recovering {
         return Err(Refusal::WrongStatus);
     }
-    if !house::same_ballot(y.ballot, x.core.cballot) {
+    if y.ballot != x.core.cballot {
         return Err(Refusal::WrongBallot);
     }
-    if !house::stamp_below(boxes::last_stamp(x), y.global) || boxes::on_list(x, job) {
+    if y.global <= boxes::last_stamp(x) || boxes::on_list(x, job) {
         return Err(Refusal::AlreadyDone);
     }
     Ok(())
@@ -47,6 +47,7 @@ fn deliver(x: BoxState, job: u8, y: Handout) -> BoxState
 }
 
 // 4 DELIVER
+#[tactic(auto, unfolding(boxes::specs::Deliver::on_deliver), using(records::proofs::laws::Bytes::encode_none))]
 pub fn do_deliver(plan: Plan, x: BoxState, job: u8, y: Handout) -> Outcome
     requires { (job < most_jobs) × (x.core.count < most_jobs) × (deliver_answer plan x job y ≡ done) }
     ensures { result ≡ result_of plan x (on_deliver plan x job y) }

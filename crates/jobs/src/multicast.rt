@@ -9,7 +9,7 @@ ghost use Rattle.records.specs.Bytes.{encode_all};
 ghost use Rattle.records.specs.Answers.{done};
 ghost use Rattle.boxes.specs.Out.{result_of, records_of};
 
-use boxes::{BoxState, Outcome};
+use boxes::{BoxState, Outcome, Status};
 use house::{Plan, Row, Stamp};
 use records::{Answer, Refusal};
 
@@ -21,7 +21,7 @@ pub fn decide_multicast(plan: Plan, x: BoxState, job: u8) -> Answer
     if !house::named(plan, job, boxes::home_in(plan, x)) {
         return Err(Refusal::NotNamed);
     }
-    if !boxes::is_leader(x.core.status) {
+    if x.core.status != Status::Leader {
         return Err(Refusal::WrongStatus);
     }
     let is_new = boxes::row_at(x, job).phase == house::START;
@@ -54,6 +54,7 @@ fn propose(plan: Plan, x: BoxState, job: u8) -> BoxState
 }
 
 // 1 MULTICAST
+#[tactic(auto, unfolding(boxes::specs::Multicast::on_multicast), using(crate::proofs::laws::Steps::sent_accepts, sending::proofs::laws::Sends::sends_as))]
 pub fn do_multicast(plan: Plan, x: BoxState, job: u8, tray: &mut [u8]) -> Outcome
     requires { (plan_sound plan ≡ true) × (job < most_jobs) × (x.core.clock ≤ most_time) × (length (encode_all plan (records_of (on_multicast plan x job))) ≤ length tray.old) × (multicast_answer plan x job ≡ done) }
     ensures { (result ≡ result_of plan x (on_multicast plan x job)) × (tray.new ≡ onto (encode_all plan (records_of (on_multicast plan x job))) tray.old) }

@@ -10,6 +10,7 @@ use house::Plan;
 use sending::Sent;
 
 // MULTICAST from the office to all boxes of the named districts: no box is asked
+#[tactic(auto, unfolding(boxes::specs::Post::posts), using(sending::proofs::laws::Kinds::multicasts_sent, sending::proofs::laws::Sends::sends_as))]
 pub fn do_post(plan: Plan, job: u8, tray: &mut [u8]) -> Sent
     requires { (plan_sound plan ≡ true) × (length (encode_all plan (posts plan job)) ≤ length tray.old) }
     ensures { Written plan (posts plan job) tray.old result tray.new }

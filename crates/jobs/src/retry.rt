@@ -26,6 +26,7 @@ pub fn decide_retry(plan: Plan, x: BoxState, job: u8) -> Answer
 }
 
 // the job's MULTICAST again; the box stays as it is
+#[tactic(auto, unfolding(boxes::specs::Retry::retries), using(sending::proofs::laws::Kinds::multicasts_sent, sending::proofs::laws::Sends::sends_as))]
 pub fn do_retry(plan: Plan, x: BoxState, job: u8, tray: &mut [u8]) -> Sent
     requires { (plan_sound plan ≡ true) × (length (encode_all plan (retries plan x job)) ≤ length tray.old) }
     ensures { Written plan (retries plan x job) tray.old result tray.new }

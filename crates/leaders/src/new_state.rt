@@ -13,14 +13,14 @@ use house::{Ballot, BoxNo, Plan};
 use records::{Answer, NewState, Refusal};
 
 // recovering, ballot equal
-#[tactic(auto, unfolding(boxes::specs::NewState::new_state_answer))]
+#[tactic(auto, unfolding(boxes::specs::NewState::new_state_answer, house::specs::Pairs::same_ballot))]
 pub fn decide_new_state(x: BoxState, b: Ballot) -> Answer
     ensures { result ≡ new_state_answer x b }
 {
-    if !boxes::is_recovering(x.core.status) {
+    if x.core.status != Status::Recovering {
         return Err(Refusal::WrongStatus);
     }
-    if !house::same_ballot(b, x.core.ballot) {
+    if b != x.core.ballot {
         return Err(Refusal::WrongBallot);
     }
     Ok(())
@@ -36,6 +36,7 @@ fn follow(x: BoxState, y: NewState) -> BoxState
 }
 
 // 7 NEW_STATE
+#[tactic(auto, unfolding(boxes::specs::NewState::on_new_state), using(sending::proofs::laws::Sends::encode_one))]
 pub fn do_new_state(plan: Plan, x: BoxState, from: BoxNo, y: NewState, tray: &mut [u8]) -> Outcome
     requires { (plan_sound plan ≡ true) × (length (encode_all plan (records_of (on_new_state x from y))) ≤ length tray.old) × (new_state_answer x y.ballot ≡ done) }
     ensures { (result ≡ result_of plan x (on_new_state x from y)) × (tray.new ≡ onto (encode_all plan (records_of (on_new_state x from y))) tray.old) }

@@ -13,11 +13,11 @@ use house::{Ballot, BoxNo, Plan};
 use records::{Answer, Refusal};
 
 // 5 NEWLEADER: any status, ballot above own ballot
-#[tactic(auto, unfolding(boxes::specs::Newleader::newleader_answer))]
+#[tactic(auto, unfolding(boxes::specs::Newleader::newleader_answer, house::specs::Pairs::ballot_lt))]
 pub fn decide_newleader(x: BoxState, b: Ballot) -> Answer
     ensures { result ≡ newleader_answer x b }
 {
-    if !house::ballot_below(x.core.ballot, b) {
+    if b <= x.core.ballot {
         return Err(Refusal::WrongBallot);
     }
     Ok(())
@@ -33,6 +33,7 @@ fn join(x: BoxState, b: Ballot) -> BoxState
 }
 
 // 5 NEWLEADER
+#[tactic(auto, unfolding(boxes::specs::Newleader::on_newleader), using(sending::proofs::laws::Sends::encode_one))]
 pub fn do_newleader(plan: Plan, x: BoxState, from: BoxNo, b: Ballot, tray: &mut [u8]) -> Outcome
     requires { (plan_sound plan ≡ true) × (length (encode_all plan (records_of (on_newleader plan x from b))) ≤ length tray.old) × (newleader_answer x b ≡ done) }
     ensures { (result ≡ result_of plan x (on_newleader plan x from b)) × (tray.new ≡ onto (encode_all plan (records_of (on_newleader plan x from b))) tray.old) }

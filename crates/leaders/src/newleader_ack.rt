@@ -9,7 +9,7 @@ ghost use Rattle.records.specs.Bytes.{encode_all};
 ghost use Rattle.boxes.specs.Out.{result_of, records_of};
 
 use crate::merge;
-use boxes::{BoxState, Outcome, Vote};
+use boxes::{BoxState, Outcome, Status, Vote};
 use house::{Ballot, BoxNo, Plan};
 use records::{Answer, Ballotpaper, Refusal};
 
@@ -18,23 +18,21 @@ use records::{Answer, Ballotpaper, Refusal};
 fn voted_by(x: BoxState, from: BoxNo) -> bool
     ensures { result ≡ voted_by x from }
 {
-    let vote = x.volatile.vote;
-    vote.held & (vote.voter.0 == from.0)
+    x.volatile.vote.held && x.volatile.vote.voter == from
 }
 
 // 6 NEWLEADER_ACK: recovering, ballot equal, not merged already and not the same voter
-#[tactic(auto, unfolding(boxes::specs::NewleaderAck::newleader_ack_answer))]
+#[tactic(auto, unfolding(boxes::specs::NewleaderAck::newleader_ack_answer, house::specs::Pairs::same_ballot))]
 pub fn decide_newleader_ack(x: BoxState, from: BoxNo, b: Ballot) -> Answer
     ensures { result ≡ newleader_ack_answer x from b }
 {
-    if !boxes::is_recovering(x.core.status) {
+    if x.core.status != Status::Recovering {
         return Err(Refusal::WrongStatus);
     }
-    if !house::same_ballot(b, x.core.ballot) {
+    if b != x.core.ballot {
         return Err(Refusal::WrongBallot);
     }
-    let is_merged = house::same_ballot(x.core.cballot, x.core.ballot);
-    if is_merged || voted_by(x, from) {
+    if x.core.cballot == x.core.ballot || voted_by(x, from) {
         return Err(Refusal::AlreadyDone);
     }
     Ok(())
@@ -56,6 +54,7 @@ fn is_quorum(plan: Plan, x: BoxState) -> bool
 }
 
 // 6 NEWLEADER_ACK, with a vote to keep or to merge
+#[tactic(auto, unfolding(boxes::specs::NewleaderAck::when_voted, laws::specs::Choice::pick), using(crate::proofs::laws::Votes::quorum_held, crate::proofs::laws::Voted::states_sent, sending::proofs::laws::Sends::sends_as, records::proofs::laws::Bytes::encode_none, laws::proofs::laws::Tray::onto_nil))]
 fn when_voted(plan: Plan, x: BoxState, v: Vote, tray: &mut [u8]) -> Outcome
     requires { (plan_sound plan ≡ true) × (length (encode_all plan (records_of (when_voted plan x v))) ≤ length tray.old) }
     ensures { (result ≡ result_of plan x (when_voted plan x v)) × (tray.new ≡ onto (encode_all plan (records_of (when_voted plan x v))) tray.old) }
@@ -71,6 +70,7 @@ fn when_voted(plan: Plan, x: BoxState, v: Vote, tray: &mut [u8]) -> Outcome
 }
 
 // 6 NEWLEADER_ACK
+#[tactic(auto, unfolding(boxes::specs::NewleaderAck::on_newleader_ack))]
 pub fn do_newleader_ack(
     plan: Plan,
     x: BoxState,

@@ -13,14 +13,14 @@ use house::{Ballot, Plan};
 use records::{Answer, Refusal};
 
 // recovering, ballot and cballot equal
-#[tactic(auto, unfolding(boxes::specs::NewstateAck::newstate_ack_answer))]
+#[tactic(auto, unfolding(boxes::specs::NewstateAck::newstate_ack_answer, house::specs::Pairs::same_ballot))]
 pub fn decide_newstate_ack(x: BoxState, b: Ballot) -> Answer
     ensures { result ≡ newstate_ack_answer x b }
 {
-    if !boxes::is_recovering(x.core.status) {
+    if x.core.status != Status::Recovering {
         return Err(Refusal::WrongStatus);
     }
-    if !house::same_ballot(b, x.core.ballot) || !house::same_ballot(b, x.core.cballot) {
+    if b != x.core.ballot || b != x.core.cballot {
         return Err(Refusal::WrongBallot);
     }
     Ok(())

@@ -24,6 +24,7 @@ pub fn decide_stand(x: BoxState) -> Answer
 }
 
 // NEWLEADER with the next ballot to the district; the box stays as it is
+#[tactic(auto, using(sending::proofs::laws::Kinds::newleaders_sent, sending::proofs::laws::Sends::sends_as))]
 pub fn do_stand(plan: Plan, x: BoxState, tray: &mut [u8]) -> Sent
     requires { (plan_sound plan ≡ true) × (x.core.ballot.number < most_number) × (length (encode_all plan (standing plan x)) ≤ length tray.old) }
     ensures { Written plan (standing plan x) tray.old result tray.new }

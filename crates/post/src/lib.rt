@@ -6,7 +6,6 @@ ghost use Rattle.laws.specs.Tray.{onto};
 ghost use Rattle.laws.specs.Choice.{pick};
 ghost use Rattle.house.specs.Limits.{most_post};
 ghost use Rattle.post.specs.Posting.{room_of, next_start, walk_from, start_of, most_place};
-ghost use Rattle.post.specs.Index.{Indexed};
 
 use house::Plan;
 
@@ -16,6 +15,58 @@ const LEAST_RECORD: usize = 8;
 const MOST_RECORDS: usize = house::MOST_POST / LEAST_RECORD;
 
 pub const INDEX_ROOM: usize = MOST_RECORDS + 1;
+
+// where the first records begin, up to the one of number `last`
+#[derive(Drop)]
+pub struct Index<const N: usize> {
+    places: [u16; N],
+    last: usize,
+}
+
+impl<const N: usize> Index<N> {
+    ghost use Rattle.std.specs.Prelude.{ℕ, List};
+    ghost use Rattle.house.specs.declared.Plan.{Plan};
+    ghost use Rattle.post.specs.Index.{Indexed};
+
+    // the first record begins at 0, whatever the plan and the post
+    pub fn new() -> Self
+        ensures { 0 < N → (P : Plan) (s : List ℕ) (used : ℕ) → Indexed P s used result }
+    {
+        Index {
+            places: [0; N],
+            last: 0,
+        }
+    }
+
+    // it goes on until it has record k, or as far as records lie within what is used and its room goes
+    pub fn extend(&mut self, plan: Plan, s: &[u8], used: usize, k: u32)
+        requires { Indexed plan s.now used self.old }
+        ensures { Indexed plan s.now used self.new × (self.old.last ≤ self.new.last) }
+    {
+        for _ in self.last..k as usize {
+            let at = self.places[self.last] as usize;
+            let next = next_start(plan, s, used, at);
+            if self.last + 1 == N || used <= at || used < next || house::MOST_POST <= next {
+                return;
+            }
+            self.last += 1;
+            self.places[self.last] = next as u16;
+        }
+    }
+
+    // where record k begins: by the index as far as it goes, else on from its last place
+    pub fn find_start(&self, plan: Plan, s: &[u8], used: usize, k: u32) -> usize
+        requires { Indexed plan s.now used self.now }
+        ensures { (result ≡ start_of plan s.now used k) × (result ≤ most_place) }
+    {
+        let want = k as usize;
+        if want <= self.last {
+            return self.places[want] as usize;
+        }
+        let at = self.places[self.last] as usize;
+        start_from(plan, s, used, at, k - self.last as u32)
+    }
+}
 
 pub fn room_of(post: &[u8]) -> usize
     ensures { (result ≡ room_of post.now) × (result ≤ length post.now) }
@@ -60,36 +111,6 @@ fn start_from(plan: Plan, s: &[u8], used: usize, from: usize, k: u32) -> usize
         at = next_start(plan, s, used, at);
     }
     at
-}
-
-// the index goes on until it has record k, or as far as records lie within what is used and its room goes: the last record that it has
-// Stays: the loop counts places, since each entry is written from the one before it in the same tray.
-pub fn extend(plan: Plan, s: &[u8], used: usize, index: &mut [u16], count: usize, k: u32) -> usize
-    requires { Indexed plan s.now used index.old count }
-    ensures { Indexed plan s.now used index.new result × (count ≤ result) }
-{
-    let want = k as usize;
-    for n in count..want {
-        let at = index[n] as usize;
-        let next = next_start(plan, s, used, at);
-        if n + 1 == index.len() || used <= at || used < next || house::MOST_POST <= next {
-            return n;
-        }
-        index[n + 1] = next as u16;
-    }
-    want.max(count)
-}
-
-// where record k begins: by the index as far as it goes, else on from its last place
-pub fn find_start(plan: Plan, s: &[u8], used: usize, k: u32, index: &[u16], count: usize) -> usize
-    requires { Indexed plan s.now used index.now count }
-    ensures { (result ≡ start_of plan s.now used k) × (result ≤ most_place) }
-{
-    let want = k as usize;
-    if want <= count {
-        return index[want] as usize;
-    }
-    start_from(plan, s, used, index[count] as usize, k - count as u32)
 }
 
 // the smaller of a place and a length

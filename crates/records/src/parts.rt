@@ -28,6 +28,7 @@ pub trait Part: Copy {
     fn none() -> Self
         ensures { result ≡ nothing };
 
+    // Stays: one comparison in each impl, since a default would need a law of `==` for each type and is no plainer.
     fn is_none(self) -> bool
         ensures { result ≡ is_nothing self };
 
@@ -61,8 +62,9 @@ impl Part for Ballot {
         house::no_ballot()
     }
 
+    #[tactic(auto, unfolding(house::specs::Pairs::is_no_ballot, house::specs::Pairs::same_ballot))]
     fn is_none(self) -> bool {
-        house::is_no_ballot(self)
+        self == Ballot::none()
     }
 
     fn put(self, t: &mut [u8]) {
@@ -97,8 +99,9 @@ impl Part for Stamp {
         house::no_stamp()
     }
 
+    #[tactic(auto, unfolding(house::specs::Pairs::is_no_stamp, house::specs::Pairs::same_stamp))]
     fn is_none(self) -> bool {
-        house::is_no_stamp(self)
+        self == Stamp::none()
     }
 
     fn put(self, t: &mut [u8]) {
@@ -115,6 +118,7 @@ impl Part for Stamp {
 }
 
 // phase, local, global; none at its start
+#[tactic(auto, unfolding(crate::specs::Rules::is_no_row, crate::specs::Rules::start_row, house::specs::Pairs::is_no_stamp, house::specs::Pairs::same_stamp))]
 impl Part for Row {
     ghost codec = { rows };
 
@@ -132,9 +136,8 @@ impl Part for Row {
         house::no_row()
     }
 
-    #[tactic(auto, unfolding(crate::specs::Rules::is_no_row, crate::specs::Rules::start_row))]
     fn is_none(self) -> bool {
-        self.phase == house::START && self.local.is_none() && self.global.is_none()
+        self == Row::none()
     }
 
     fn put(self, t: &mut [u8]) {

@@ -9,6 +9,7 @@ use Rattle.house.specs.declared.Order.TheVariants.{Post, Stand, Retry, Cut, Carr
 use Rattle.records.specs.declared.answers.Refusal.TheVariants.{NotSound, NoSuch}
 use Rattle.post.specs.Posting.{most_place, start_of, bytes_from}
 use Rattle.post.specs.Index.{Indexed}
+use Rattle.post.specs.declared.Index.{Index}
 use Rattle.boxes.specs.Out.{Out, does, guard}
 use Rattle.boxes.specs.Post.{posts}
 use Rattle.boxes.specs.Step.{receives, retried, stood, cut_off}
@@ -45,10 +46,10 @@ Starts P s used o start = (k : ℕ) → o ≡ Carry k → start ≡ start_of P s
 
 -- where an order is looked for: the box that it is for, and the beginning of the record that it carries. The index stays right; it
 -- goes on only where the plan is fixed
-pub record Found (P : Plan) (fixed : Bool) (used : ℕ) (o : Order) (s : List ℕ) (count : ℕ) (r : Place) (index : List ℕ) : Type 0 where
+pub record Found {N : ℕ} (P : Plan) (fixed : Bool) (used : ℕ) (o : Order) (s : List ℕ) (index : Index N) (r : Place) (later : Index N) : Type 0 where
   pub at_low : r.at < most_boxes
   pub asked : plan_sound P ≡ true → exists P (here used) s o ≡ true → r.at ≡ whose P (here used) s o
   pub start_low : r.start ≤ most_place
   pub starts : Starts P s used o r.start
-  pub indexed : Indexed P s used index r.count
-  pub stays : fixed ≡ false → r.count ≡ count
+  pub indexed : Indexed P s used later
+  pub stays : fixed ≡ false → later ≡ index

@@ -17,7 +17,7 @@ use records::{Record, Refusal};
 
 // `stand B`
 fn judge_stand(plan: Plan, known: bool, x: BoxState) -> Result<Record, Refusal>
-    requires { (plan_sound plan ≡ true) × (known ≡ sound plan x) × Lengths x }
+    requires { (plan_sound plan ≡ true) × (known ≡ sound plan x) }
     ensures { (used p : ℕ) (s : List ℕ) → exists plan (here used) s (Stand p) ≡ true → Judges plan used x s (Stand p) result }
 {
     if !known {
@@ -29,7 +29,7 @@ fn judge_stand(plan: Plan, known: bool, x: BoxState) -> Result<Record, Refusal>
 
 // `retry B J`
 fn judge_retry(plan: Plan, known: bool, x: BoxState, job: u8) -> Result<Record, Refusal>
-    requires { (plan_sound plan ≡ true) × (known ≡ sound plan x) × Lengths x }
+    requires { (plan_sound plan ≡ true) × (known ≡ sound plan x) }
     ensures { (used p : ℕ) (s : List ℕ) → exists plan (here used) s (Retry p job) ≡ true → Judges plan used x s (Retry p job) result }
 {
     if !known {
@@ -57,7 +57,7 @@ fn judge_carry(
     start: usize,
     post: &[u8],
 ) -> Result<Record, Refusal>
-    requires { (plan_sound plan ≡ true) × (known ≡ sound plan x) × Lengths x × (start ≤ most_place) }
+    requires { (plan_sound plan ≡ true) × (known ≡ sound plan x) × (start ≤ most_place) }
     ensures { (used k : ℕ) → start ≡ start_of plan post.now used k → exists plan (here used) post.now (Carry k) ≡ true → Judges plan used x post.now (Carry k) result }
 {
     if !known {
@@ -70,6 +70,14 @@ fn judge_carry(
     steps::judge_bytes(plan, x, &post[from..end])
 }
 
+// a plan is sound if one of its boxes is known to be
+fn known_plan(plan: Plan, known: bool) -> bool
+    requires { known ≡ true → plan_sound plan ≡ true }
+    ensures { result ≡ plan_sound plan }
+{
+    known || house::plan_sound(plan)
+}
+
 // 1 for the plan, 11, and the box's own answers; else the record that the box takes, or the one that stands for none
 pub fn judge(
     plan: Plan,
@@ -80,10 +88,10 @@ pub fn judge(
     start: usize,
     post: &[u8],
 ) -> Result<Record, Refusal>
-    requires { (known ≡ sound plan x) × Lengths x × (start ≤ most_place) × Starts plan post.now used order start }
+    requires { (known ≡ sound plan x) × (start ≤ most_place) × Starts plan post.now used order start }
     ensures { Judges plan used x post.now order result }
 {
-    if !exists::known_plan(plan, known) {
+    if !known_plan(plan, known) {
         return Err(Refusal::NotSound);
     }
     if !exists::is_there(plan, used, order, start, post) {

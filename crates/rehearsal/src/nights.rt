@@ -10,6 +10,7 @@ ghost use Rattle.rehearsal.specs.Promises.{NightFresh, OrderRehearsed};
 use crate::{Night, exists, judging, settling};
 use boxes::BoxState;
 use house::{BoxNo, Order, Plan};
+use post::Index;
 use records::{Record, Refusal};
 
 // done: how many records were written; refused: the number, and the same night
@@ -59,10 +60,10 @@ fn carry_out(plan: Plan, night: Night, at: usize, order: Order, r: Record, post:
 pub fn rehearse(plan: Plan, night: Night, order: Order, post: &mut [u8]) -> Turn
     ensures { OrderRehearsed plan night post.old order result post.new }
 {
-    let mut index = [0u16; 1];
-    let place = exists::find(plan, false, night.used, order, post, &mut index, 0);
+    let mut index = Index::<1>::new();
+    let place = exists::find(plan, false, night.used, order, post, &mut index);
     let x = box_at(night, place.at);
-    let known = exists::known_sound(plan, false, x);
+    let known = soundness::is_sound(plan, x);
     match judging::judge(plan, known, night.used, x, order, place.start, post) {
         Ok(r) => carry_out(plan, night, place.at, order, r, post),
         Err(why) => Turn {
@@ -76,9 +77,6 @@ pub fn rehearse(plan: Plan, night: Night, order: Order, post: &mut [u8]) -> Turn
 pub fn fresh_night() -> Night
     ensures { NightFresh result }
 {
-    let mut boxes = [boxes::fresh_box(BoxNo(0)); house::MOST_BOXES];
-    for at in 0..house::MOST_BOXES {
-        boxes[at] = boxes::fresh_box(BoxNo(at as u8));
-    }
+    let boxes = std::array::from_fn(|at| boxes::fresh_box(BoxNo(at as u8)));
     Night { boxes, used: 0 }
 }

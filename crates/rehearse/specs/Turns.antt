@@ -1,44 +1,49 @@
--- A run of the program: turns of reading and writing. A turn is what a read answered, the bytes in its tray, and whether the text that they gave
+-- A run of the program: turns of reading and writing. A turn is what a read gave, the bytes in its tray, and whether the text that they gave
 -- was written. The program goes on as long as bytes came and their text was written; only a read of no bytes is the end of the input.
-use Rattle.std.specs.Prelude.{ℕ, zero, suc, Bool, true, false, ◌⊎◌, ◌≡◌, ℤ, pos, negsuc, length, take}
+use Rattle.std.specs.Prelude.{ℕ, zero, suc, Bool, true, false, Option, Some, None, unwrap_or, Result, Ok, Err, ◌⊎◌, ◌≡◌, length, take}
 use mathlib.Core.List.{List, [], ◌∷◌, ◌++◌, foldl, map}
-use Rattle.io.specs.Counts.{clamp_len}
 use Rattle.laws.specs.Choice.{pick}
 use Rattle.lines.specs.Feed.{Reading, all_read}
 use Rattle.session.specs.declared.Session.{Session}
 use Rattle.session.specs.World.{World, act}
 use Rattle.session.specs.Session.{within, session_of, chunk_of, fresh_session}
-use Rattle.rehearse.specs.declared.Next.{Next}
-use Rattle.rehearse.specs.declared.Next.TheVariants.{More, End, ReadFailed, WriteFailed}
+use Rattle.rehearse.specs.declared.Flow.{Flow}
+use Rattle.rehearse.specs.declared.Flow.TheVariants.{More, End}
+use Rattle.rehearse.specs.declared.Failure.{Failure}
+use Rattle.rehearse.specs.declared.Failure.TheVariants.{Read, Write}
 use Rattle.rehearse.specs.Printed.{last_words}
 
 -- ---- a turn
 
+-- how many bytes the read gave, if it did not fail
 pub record Turn : Type 0 where
-  pub got : ℤ
+  pub read : Option ℕ
   pub tray : List ℕ
   pub written : Bool
 
 -- the bytes that the read gave
 abbrev pub given : Turn → List ℕ
-given t = take (clamp_len t.got (length t.tray)) t.tray
+given t = take (unwrap_or t.read 0) t.tray
 
--- below 0 the read has failed, 0 is the end of the input, and after some bytes their text has to be written
-unfoldable pub next_of : ℤ → Bool → Next
-next_of (negsuc k) written = ReadFailed
-next_of (pos zero) written = End
-next_of (pos (suc k)) written = pick written More WriteFailed
+-- what comes after a turn, or which call has failed
+abbrev pub Next : Type 0
+Next = Result Flow Failure
+
+-- a read of no bytes is the end of the input, and after some bytes their text has to be written
+unfoldable pub next_of : Option ℕ → Bool → Next
+next_of None written = Err Read
+next_of (Some zero) written = Ok End
+next_of (Some (suc k)) written = pick written (Ok More) (Err Write)
 
 -- `next_of`
-abbrev pub Decided : ℤ → Bool → Next → Type 0
-Decided got written r = r ≡ next_of got written
+abbrev pub Decided : Option ℕ → Bool → Next → Type 0
+Decided read written r = r ≡ next_of read written
 
 -- there is another turn only after More
 abbrev pub goes_on : Next → Bool
-goes_on More = true
-goes_on End = false
-goes_on ReadFailed = false
-goes_on WriteFailed = false
+goes_on (Ok More) = true
+goes_on (Ok End) = false
+goes_on (Err why) = false
 
 -- `goes_on`
 abbrev pub Told : Next → Bool → Type 0
@@ -52,13 +57,13 @@ read_in s post turns = foldl (all_read act) (within s post) (map given turns)
 
 -- the turns that a run may have, and what comes next: there is a turn only after one that says More
 pub data Went : List Turn → Next → Type 0 where
-  begun : Went [] More
-  on : {turns : List Turn} (t : Turn) → Went turns More → Went (turns ++ (t ∷ [])) (next_of t.got t.written)
+  begun : Went [] (Ok More)
+  on : {turns : List Turn} (t : Turn) → Went turns (Ok More) → Went (turns ++ (t ∷ [])) (next_of t.read t.written)
 
 -- one turn of the program: some read and write, and the session that is fed with the bytes of that read
 pub record OneTurn (s : Session) (lent : List ℕ) (r : Session) (next : Next) (later : List ℕ) : Type 0 where
   pub turn : Turn
-  pub decided : next ≡ next_of turn.got turn.written
+  pub decided : next ≡ next_of turn.read turn.written
   pub session : r ≡ session_of (chunk_of s lent (given turn))
   pub post : later ≡ (chunk_of s lent (given turn)).state.post
 
@@ -79,10 +84,9 @@ pub record Ran (s : Session) (lent : List ℕ) (r : Session) (next : Next) (late
 
 -- what is written in a run: the text of all turns, and behind it the last words if the input has ended
 unfoldable pub behind_turns : Next → List ℕ → List ℕ
-behind_turns More last = []
-behind_turns End last = last
-behind_turns ReadFailed last = []
-behind_turns WriteFailed last = []
+behind_turns (Ok More) last = []
+behind_turns (Ok End) last = last
+behind_turns (Err why) last = []
 
 unfoldable pub wrote : List ℕ → List Turn → Next → List ℕ
 wrote post turns next =

@@ -7,94 +7,79 @@ mod printing;
 ghost use Rattle.rehearse.specs.Turns.{OneTurn, Ran};
 
 use session::Session;
-use std::io::{Print, Read, Stdin};
+use std::fmt;
+use std::io::{Print, Read};
 
-// what is done after a turn: read on, or the input has ended, or a call has failed
-#[derive(Clone, Copy)]
-pub enum Next {
+// what follows a turn in which no call failed: more turns, or the input has ended
+#[derive(Clone, Copy, Debug, PartialEq, Eq)]
+pub enum Flow {
     More,
     End,
-    ReadFailed,
-    WriteFailed,
 }
 
-// The session after some turns, and what comes next.
-#[derive(Clone, Copy)]
-struct Going {
-    session: Session,
-    next: Next,
+// why a run breaks off
+#[derive(Clone, Copy, Debug, PartialEq, Eq)]
+pub enum Failure {
+    Read,
+    Write,
+    TooManyReads,
 }
 
-// How many bytes a read gave, or -1 where it failed.
-fn read_some(mut from: Stdin, input: &mut [u8]) -> isize {
-    match from.read(input) {
-        Ok(n) => n as isize,
-        Err(_) => -1,
+impl fmt::Display for Failure {
+    fn fmt<W: fmt::Write>(&self, f: &mut fmt::Formatter<W>) -> fmt::Result {
+        f.write_str(match self {
+            Failure::Read => "standard input cannot be read",
+            Failure::Write => "standard output cannot be written",
+            Failure::TooManyReads => "too many reads",
+        })
     }
 }
 
 // One turn: reads, writes the answers to the lines that end there, and says what comes next.
-fn one_turn(rt: &HostRuntime, s: Session, post: &mut [u8]) -> Going
-    ensures { OneTurn s post.old result.session result.next post.new }
+fn one_turn(rt: &HostRuntime, session: &mut Session, post: &mut [u8]) -> Result<Flow, Failure>
+    ensures { OneTurn session.old post.old session.new result post.new }
 {
     let mut input = [0u8; session::CHUNK];
-    let got = read_some(rt.stdin(), &mut input);
-    let n = io::count(got, &input);
+    let read = rt.stdin().read(&mut input).ok();
     let mut out = [0u8; session::CHUNK_ROOM];
-    let f = session::feed_chunk(s, &input, n, post, &mut out);
-    let used = f.used;
-    let written = rt.write_all(&out[0..used]).is_ok();
-    let after = f.session;
-    Going {
-        session: after,
-        next: printing::next_of(got, written),
-    }
+    let fed = session::feed_chunk(*session, &input, read.unwrap_or(0), post, &mut out);
+    *session = fed.session;
+    let written = rt.write_all(&out[..fed.used]).is_ok();
+    printing::next_of(read, written)
 }
 
-// All turns. A proved loop ends, and nothing says that the input does: it counts its turns, from a number that no run uses up.
-fn all_turns(rt: &HostRuntime, s: Session, post: &mut [u8]) -> Going
-    ensures { Ran s post.old result.session result.next post.new }
+// All turns. A proved loop ends, and nothing says that the input does: the loop has a count that no run uses up.
+fn all_turns(rt: &HostRuntime, session: &mut Session, post: &mut [u8]) -> Result<Flow, Failure>
+    ensures { Ran session.old post.old session.new result post.new }
 {
-    let mut cur = s;
-    let mut next = Next::More;
-    let mut turns = u64::MAX;
-    while (0 < turns) & printing::goes_on(next) {
-        let g = one_turn(rt, cur, post);
-        let after = g.session;
-        cur = after;
-        let more = g.next;
-        next = more;
-        turns -= 1;
+    for _ in 0..u64::MAX {
+        let next = one_turn(rt, session, post);
+        if !printing::goes_on(next) {
+            return next;
+        }
     }
-    Going {
-        session: cur,
-        next: next,
-    }
-}
-
-// A line on standard error; nothing is left to do where that fails too.
-fn complain(rt: &HostRuntime, line: &str) {
-    let _ = rt.eprintln(line);
+    Ok(Flow::More)
 }
 
 // Behind the end of the input: the last answer and the report.
-fn end(rt: &HostRuntime, s: Session, post: &mut [u8]) {
+fn end(rt: &HostRuntime, session: Session, post: &mut [u8]) -> Result<(), Failure> {
     let mut out = [0u8; printing::LAST_ROOM];
-    let used = printing::last_words(s, post, &mut out);
-    if rt.write_all(&out[0..used]).is_err() {
-        complain(rt, "rehearse: standard output cannot be written");
+    let used = printing::last_words(session, post, &mut out);
+    rt.write_all(&out[..used]).map_err(|_| Failure::Write)
+}
+
+fn run(rt: &HostRuntime) -> Result<(), Failure> {
+    let mut session = session::fresh_session();
+    let mut post = [0u8; house::MOST_POST];
+    match all_turns(rt, &mut session, &mut post)? {
+        Flow::End => end(rt, session, &mut post),
+        Flow::More => Err(Failure::TooManyReads),
     }
 }
 
 fn main(rt: HostRuntime) {
-    let mut post = [0u8; house::MOST_POST];
-    let g = all_turns(&rt, session::fresh_session(), &mut post);
-    let s = g.session;
-    let next = g.next;
-    match next {
-        Next::End => end(&rt, s, &mut post),
-        Next::ReadFailed => complain(&rt, "rehearse: standard input cannot be read"),
-        Next::WriteFailed => complain(&rt, "rehearse: standard output cannot be written"),
-        Next::More => complain(&rt, "rehearse: too many reads"),
+    if let Err(failure) = run(&rt) {
+        // nothing is left to do where this fails too
+        let _ = eprintln!(rt; "rehearse: {failure}");
     }
 }

@@ -12,7 +12,7 @@ use Rattle.lines.specs.declared.Typed.{Typed}
 use Rattle.lines.specs.declared.Typed.TheVariants.{Districts, Job, Given, Unreadable}
 use Rattle.session.specs.Desk.{empty_desk, districts_here, job_here, with_districts, with_job, fixed_desk}
 use Rattle.session.specs.declared.Desk.{Desk}
-use Rattle.session.specs.Heard.{turn_text}
+use Rattle.report.specs.Texts.{turn_text}
 use Rattle.session.specs.World.{World, act}
 use Rattle.session.specs.Whole.{first_world}
 use Rattle.closing.specs.Endings.{first_jobs, shown_of}

@@ -68,5 +68,5 @@ pub fn job_line(job: u8, committed: Option<Stamp>, finished: bool, t: &mut [u8])
 {
     let a = put_titled(b"job", job, t);
     let b = a + put_stamp(committed, &mut t[a..]);
-    b + text::put_either(finished, b" yes\n", b" no\n", &mut t[b..])
+    b + text::put(if finished { b" yes\n" } else { b" no\n" }, &mut t[b..])
 }

@@ -1,10 +1,12 @@
 // Bytes, numbers and answers put into a text.
 // Their spelling stands in specs/Texts.antt.
-ghost use Rattle.std.specs.Prelude.{◌≡◌, ◌≤◌, max, length};
-ghost use Rattle.laws.specs.Choice.{pick};
+ghost use Rattle.std.specs.Prelude.{[], ◌∷◌, ◌++◌, ◌≡◌, ◌≤◌, length};
 ghost use Rattle.laws.specs.Tray.{onto};
 ghost use Rattle.lines.specs.Numeral.{decimal};
-ghost use Rattle.report.specs.Texts.{item, answer_text, answer_most};
+ghost use Rattle.lines.specs.Parts.{line_feed};
+ghost use Rattle.report.specs.Texts.{item, turn_text, answer_most};
+
+use records::Refusal;
 
 // A copy of the bytes.
 #[tactic(auto, unfolding(laws::specs::Tray::onto))]
@@ -14,15 +16,6 @@ pub fn put(bytes: &[u8], t: &mut [u8]) -> usize
 {
     t[..bytes.len()].copy_from_slice(bytes);
     bytes.len()
-}
-
-// One of two texts.
-#[tactic(auto, unfolding(laws::specs::Choice::pick))]
-pub fn put_either(first: bool, a: &[u8], b: &[u8], t: &mut [u8]) -> usize
-    requires { (length a.now ≤ length t.old) × (length b.now ≤ length t.old) }
-    ensures { (result ≤ max (length a.now) (length b.now)) × (result ≡ length (pick first a.now b.now)) × (t.new ≡ onto (pick first a.now b.now) t.old) }
-{
-    put(if first { a } else { b }, t)
 }
 
 // A number in decimal.
@@ -44,12 +37,24 @@ pub fn put_item(n: u8, t: &mut [u8]) -> usize
     a + put_decimal(n as u32, &mut t[a..])
 }
 
-// The answer to a line: `ok N` or `no N`.
-pub fn answer_line(refused: bool, n: u32, t: &mut [u8]) -> usize
+// A word of three bytes, a number, and the end of the line.
+fn put_answer(word: &[u8; 3], n: u32, t: &mut [u8]) -> usize
     requires { answer_most ≤ length t.old }
-    ensures { (result ≤ answer_most) × (result ≡ length (answer_text refused n)) × (t.new ≡ onto (answer_text refused n) t.old) }
+    ensures { (result ≤ answer_most) × (result ≡ length ((word.now ++ decimal n) ++ (line_feed ∷ []))) × (t.new ≡ onto ((word.now ++ decimal n) ++ (line_feed ∷ [])) t.old) }
 {
-    let a = put_either(refused, b"no ", b"ok ", t);
+    let a = put(word, t);
     let b = a + put_decimal(n, &mut t[a..]);
     b + put(b"\n", &mut t[b..])
+}
+
+// The answer to a line: `ok N`, the records written, or `no N`, the number of the refusal.
+#[tactic(auto, unfolding(crate::specs::Texts::answer_text, laws::specs::Choice::pick))]
+pub fn answer_line(answer: Result<u32, Refusal>, t: &mut [u8]) -> usize
+    requires { answer_most ≤ length t.old }
+    ensures { (result ≤ answer_most) × (result ≡ length (turn_text answer)) × (t.new ≡ onto (turn_text answer) t.old) }
+{
+    match answer {
+        Ok(records) => put_answer(b"ok ", records, t),
+        Err(why) => put_answer(b"no ", u8::from(why) as u32, t),
+    }
 }

@@ -69,6 +69,7 @@ fn newleader_obeys(plan: Plan, from: BoxNo, to: BoxNo, b: Ballot) -> bool
     parties::are_neighbours(plan, from, to) && house::ballot_of(from, b)
 }
 
+#[tactic(auto, unfolding(records::specs::Rules::rules, house::specs::Pairs::ballot_lt))]
 pub fn newleader_ack_obeys(
     plan: Plan,
     from: BoxNo,
@@ -83,7 +84,7 @@ pub fn newleader_ack_obeys(
     let home = house::home_of(plan, from);
     parties::are_neighbours(plan, from, to)
         && house::ballot_of(to, b)
-        && house::ballot_below(cballot, b)
+        && cballot < b
         && house::none_or_in(plan, home, cballot)
         && rows::clock_of(home, clock)
         && rows::rows_sound(plan, home, table, plan.jobs)

@@ -26,7 +26,7 @@ pub fn are_neighbours(plan: Plan, from: BoxNo, to: BoxNo) -> bool
 pub fn are_others(plan: Plan, from: BoxNo, to: BoxNo) -> bool
     ensures { result ≡ others plan from to }
 {
-    are_neighbours(plan, from, to) && from.0 != to.0
+    are_neighbours(plan, from, to) && from != to
 }
 
 // the ballot of a district, none behind the last
@@ -40,7 +40,7 @@ pub fn ballot_at(ballots: [Ballot; house::DISTRICTS], d: District) -> Ballot
 }
 
 // of a box of district d if the job names it, none if not
-#[tactic(auto, unfolding(records::specs::Rules::ballot_for, laws::specs::Choice::pick))]
+#[tactic(auto, unfolding(records::specs::Rules::ballot_for, laws::specs::Choice::pick, house::specs::Pairs::is_no_ballot, house::specs::Pairs::same_ballot))]
 fn ballot_for(plan: Plan, job: u8, ballots: [Ballot; house::DISTRICTS], d: District) -> bool
     ensures { result ≡ ballot_for plan job ballots d.0 }
 {
@@ -48,7 +48,7 @@ fn ballot_for(plan: Plan, job: u8, ballots: [Ballot; house::DISTRICTS], d: Distr
     if house::named(plan, job, d) {
         house::ballot_in(plan, d, b)
     } else {
-        house::is_no_ballot(b)
+        b == house::no_ballot()
     }
 }
 

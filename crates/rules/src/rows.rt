@@ -4,34 +4,31 @@ ghost use Rattle.std.specs.Prelude.{◌≡◌};
 ghost use Rattle.records.specs.Rules.{clock_of, both_stamps, open_row, done_row, row_sound, rows_sound, none_proposed};
 
 use house::{District, Plan, Row, Stamp};
-use records::Part;
 
 // a stamp of the district, whose time may be 0
 #[tactic(auto, unfolding(records::specs::Rules::clock_of))]
 pub fn clock_of(d: District, s: Stamp) -> bool
     ensures { result ≡ clock_of d s }
 {
-    house::time_fits(s.time) && s.district.0 == d.0
+    house::time_fits(s.time) && s.district == d
 }
 
 // the rules of phase 3
-#[tactic(auto, unfolding(records::specs::Rules::both_stamps))]
+#[tactic(auto, unfolding(records::specs::Rules::both_stamps, house::specs::Pairs::stamp_lt))]
 pub fn both_stamps(plan: Plan, job: u8, d: District, local: Stamp, global: Stamp) -> bool
     ensures { result ≡ both_stamps plan job d local global }
 {
-    house::stamp_of(d, local)
-        && house::stamp_named(plan, job, global)
-        && !house::stamp_below(global, local)
+    house::stamp_of(d, local) && house::stamp_named(plan, job, global) && global >= local
 }
 
 // phases 1 and 2
-#[tactic(auto, unfolding(records::specs::Rules::open_row))]
+#[tactic(auto, unfolding(records::specs::Rules::open_row, house::specs::Pairs::is_no_stamp, house::specs::Pairs::same_stamp))]
 fn open_row(d: District, row: Row) -> bool
     ensures { result ≡ open_row d row }
 {
     (row.phase == house::PROPOSED || row.phase == house::ACCEPTED)
         && house::stamp_of(d, row.local)
-        && row.global.is_none()
+        && row.global == house::no_stamp()
 }
 
 #[tactic(auto, unfolding(records::specs::Rules::done_row))]
@@ -41,11 +38,12 @@ fn done_row(plan: Plan, job: u8, d: District, row: Row) -> bool
     row.phase == house::COMMITTED && both_stamps(plan, job, d, row.local, row.global)
 }
 
-#[tactic(auto, unfolding(records::specs::Rules::row_sound, records::specs::Rules::is_no_row))]
+#[tactic(auto, unfolding(records::specs::Rules::row_sound, records::specs::Rules::start_row, house::specs::Pairs::is_no_stamp, house::specs::Pairs::same_stamp))]
 fn row_sound(plan: Plan, d: District, job: u8, row: Row) -> bool
     ensures { result ≡ row_sound plan d job row }
 {
-    row.is_none() || house::named(plan, job, d) && (open_row(d, row) || done_row(plan, job, d, row))
+    row == house::no_row()
+        || house::named(plan, job, d) && (open_row(d, row) || done_row(plan, job, d, row))
 }
 
 // the first n rows, each of its job; none stands behind the last

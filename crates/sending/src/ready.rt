@@ -32,16 +32,17 @@ fn open_above(table: [Row; house::JOBS], n: usize, s: Stamp) -> bool
 {
     table[..n]
         .iter()
-        .all(|row| !row_open(*row) || house::stamp_below(s, row.local))
+        .all(|row| !row_open(*row) || s < row.local)
 }
 
 // a row is before that of the best job so far, by global stamp
+#[tactic(auto, unfolding(house::specs::Pairs::stamp_lt))]
 fn goes_before(table: &[Row; house::JOBS], best: Option<u8>, row: &Row) -> bool
     requires { IfSome best (λ j. j < most_jobs) }
     ensures { result ≡ goes_before table.now best row.now }
 {
     match best {
-        Some(j) => house::stamp_below(row.global, table[j as usize].global),
+        Some(j) => row.global < table[j as usize].global,
         None => true,
     }
 }

@@ -1,16 +1,14 @@
 -- What the program does with the order of one line: the desk, the night and the post after it, and the text that it prints.
-use Rattle.std.specs.Prelude.{ℕ, Bool, true, false, List, [], Err, Ok, Result}
+use Rattle.std.specs.Prelude.{ℕ, Bool, List, [], Err}
 use Rattle.laws.specs.Choice.{pick}
 use Rattle.house.specs.declared.Order.{Order}
-use Rattle.records.specs.Answers.{refusal_no}
-use Rattle.records.specs.declared.answers.Refusal.{Refusal}
 use Rattle.records.specs.declared.answers.Refusal.TheVariants as Refusals
 use Rattle.rehearsal.specs.declared.Night.{Night}
 use Rattle.rehearsal.specs.declared.nights.Turn.{Turn}
 use Rattle.rehearsal.specs.Night.{whose, given, turn_of, post_of}
 use Rattle.lines.specs.declared.Typed.{Typed}
 use Rattle.lines.specs.declared.Typed.TheVariants.{Districts, Job, Given, Unreadable}
-use Rattle.report.specs.Texts.{answer_text}
+use Rattle.report.specs.Texts.{turn_text}
 use Rattle.session.specs.declared.Desk.{Desk}
 use Rattle.session.specs.Desk.{districts_here, job_here, with_districts, with_job, fixed_desk}
 
@@ -20,11 +18,6 @@ pub record After : Type 0 where
   pub night : Night
   pub post : List ℕ
   pub text : List ℕ
-
--- `ok N`, the records written, or `no N`, the number of the refusal
-abbrev pub turn_text : Result ℕ Refusal → List ℕ
-turn_text (Ok n) = answer_text false n
-turn_text (Err why) = answer_text true (refusal_no why)
 
 -- a line that is unreadable or misplaced prints `no 3`
 abbrev pub unread : List ℕ

@@ -14,11 +14,11 @@ use Rattle.rehearsal.specs.Steps.{Goes}
 use Rattle.rehearsal.specs.declared.Night.{Night}
 use Rattle.lines.specs.declared.Typed.{Typed}
 use Rattle.lines.specs.declared.Typed.TheVariants.{Districts, Job, Given, Unreadable}
-use Rattle.report.specs.Texts.{answer_most}
+use Rattle.report.specs.Texts.{turn_text, answer_most}
 use Rattle.session.specs.declared.Desk.{Desk}
 use Rattle.session.specs.Desk.{fixed_desk}
 use Rattle.boxes.specs.Out.{refused}
-use Rattle.session.specs.Heard.{turn_text, obeyed, handled}
+use Rattle.session.specs.Heard.{obeyed, handled}
 use Rattle.session.specs.declared.hear.Heard.{Heard}
 
 -- the order that a line gives; a plan line asks no box, and the first will do

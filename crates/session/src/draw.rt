@@ -7,13 +7,11 @@ use crate::Desk;
 use house::Plan;
 
 // a typed number as a byte of the plan
+#[tactic(auto, unfolding(crate::specs::Desk::capped, laws::specs::Choice::pick))]
 fn as_byte(n: u32) -> u8
     ensures { result ≡ capped n }
 {
-    if 255 <= n {
-        return 255;
-    }
-    n as u8
+    n.min(255) as u8
 }
 
 // nothing is drawn
@@ -32,75 +30,57 @@ pub fn empty_desk() -> Desk
 }
 
 // a `districts` line is in place
+#[tactic(auto, unfolding(crate::specs::Desk::districts_here))]
 pub fn districts_here(desk: Desk) -> bool
     ensures { result ≡ districts_here desk }
 {
-    !(desk.drawn | desk.fixed)
+    !(desk.drawn || desk.fixed)
 }
 
 // a `job` line is in place
+#[tactic(auto, unfolding(crate::specs::Desk::job_here))]
 pub fn job_here(desk: Desk) -> bool
     ensures { result ≡ job_here desk }
 {
-    desk.drawn & !desk.fixed
+    desk.drawn && !desk.fixed
 }
 
 // after a `districts` line in place
 pub fn with_districts(desk: Desk, g: u32) -> Desk
     ensures { result ≡ with_districts desk g }
 {
-    let plan = desk.plan;
-    let masks = plan.masks;
+    let plan = Plan {
+        districts: as_byte(g),
+        ..desk.plan
+    };
     Desk {
-        plan: Plan {
-            districts: as_byte(g),
-            jobs: plan.jobs,
-            masks: masks,
-        },
+        plan,
         drawn: true,
-        fixed: desk.fixed,
+        ..desk
     }
 }
 
 // after a `job` line in place
+#[tactic(auto, unfolding(crate::specs::Desk::one_job, laws::specs::Choice::pick))]
 pub fn with_job(desk: Desk, mask: u32) -> Desk
     ensures { result ≡ with_job desk mask }
 {
-    let plan = desk.plan;
-    let jobs = plan.jobs;
-    let mut masks = plan.masks;
-    if house::MOST_JOBS <= jobs {
-        return Desk {
-            plan: Plan {
-                districts: plan.districts,
-                jobs: house::MOST_JOBS + 1,
-                masks: masks,
-            },
-            drawn: desk.drawn,
-            fixed: desk.fixed,
-        };
+    let mut plan = desk.plan;
+    if house::MOST_JOBS <= plan.jobs {
+        plan.jobs = house::MOST_JOBS + 1;
+    } else {
+        plan.masks[plan.jobs as usize] = as_byte(mask);
+        plan.jobs += 1;
     }
-    let at = jobs as usize;
-    masks[at] = as_byte(mask);
-    Desk {
-        plan: Plan {
-            districts: plan.districts,
-            jobs: jobs + 1,
-            masks: masks,
-        },
-        drawn: desk.drawn,
-        fixed: desk.fixed,
-    }
+    Desk { plan, ..desk }
 }
 
 // after an order: the plan stays as it is
 pub fn fix(desk: Desk) -> Desk
     ensures { result ≡ fixed_desk desk }
 {
-    let plan = desk.plan;
     Desk {
-        plan: plan,
-        drawn: desk.drawn,
         fixed: true,
+        ..desk
     }
 }

@@ -6,6 +6,7 @@ ghost use Rattle.session.specs.Session.{chunk_of};
 ghost use Rattle.session.specs.Promises.{Begun, Leaves, ChunkFed, LastFed};
 
 use crate::{Session, draw, turn};
+use post::{INDEX_ROOM, Index};
 use rehearsal::Night;
 
 // the session after some input, and how many bytes of text it gave
@@ -29,6 +30,7 @@ pub fn fresh_session() -> Session
 
 // some bytes of the input, line by line, with room for an answer to each. The boxes stand here as one array, and an order takes one of
 // them; a box that a step left sound is not tested again, and where a record begins is found once
+// Stays: an iterator over the chunk's lines is no plainer, since the last piece may be a part of one, and each begins where the one before says.
 fn feed_into(s: Session, chunk: &[u8], post: &mut [u8], t: &mut [u8]) -> Fed
     requires { answer_most * length chunk.now ≤ length t.old }
     ensures { Leaves (chunk_of s post.old chunk.now) t.old result post.new t.new }
@@ -38,24 +40,26 @@ fn feed_into(s: Session, chunk: &[u8], post: &mut [u8], t: &mut [u8]) -> Fed
     let mut desk = s.desk;
     let mut line = s.line;
     let mut known = [false; house::MOST_BOXES];
-    let mut index = [0u16; post::INDEX_ROOM];
-    let mut count = 0;
+    let mut index = Index::<INDEX_ROOM>::new();
     let mut text = 0;
     let mut from = 0;
     while from < chunk.len() {
-        let a = turn::ask(line, desk, used, chunk, from, post, &mut index, count);
-        let rest = a.line;
-        line = rest;
+        let a = turn::ask(line, desk, used, chunk, from, post, &mut index);
+        line = a.line;
         from = a.next;
-        count = a.count;
-        if a.ended {
-            let at = a.at;
-            let x = boxes[at];
-            let sure = known[at];
-            let typed = a.typed;
-            let r = turn::turn(desk, sure, used, x, typed, a.start, post, &mut t[text..]);
-            let next = r.desk;
-            desk = next;
+        if let Some(l) = a.ended {
+            let at = l.place.at;
+            let r = turn::turn(
+                desk,
+                known[at],
+                used,
+                boxes[at],
+                l.typed,
+                l.place.start,
+                post,
+                &mut t[text..],
+            );
+            desk = r.desk;
             used = r.used;
             text += r.text;
             known[at] = r.known;
@@ -66,12 +70,9 @@ fn feed_into(s: Session, chunk: &[u8], post: &mut [u8], t: &mut [u8]) -> Fed
     }
     Fed {
         session: Session {
-            night: Night {
-                boxes: boxes,
-                used: used,
-            },
-            desk: desk,
-            line: line,
+            night: Night { boxes, used },
+            desk,
+            line,
         },
         used: text,
     }
@@ -88,16 +89,14 @@ pub fn feed_chunk(
     ensures { ChunkFed s chunk.now n post.old t.old result post.new t.new }
 {
     let k = post::within(n, crate::CHUNK);
-    let bytes = &chunk[..];
-    feed_into(s, &bytes[0..k], post, t)
+    feed_into(s, &chunk[..k], post, t)
 }
 
 // the end of the input ends a line that has begun
 pub fn last_line(s: Session, post: &mut [u8], t: &mut [u8; crate::ANSWER_ROOM]) -> Fed
     ensures { LastFed s post.old t.old result post.new t.new }
 {
-    let line = s.line;
-    if line.len == 0 {
+    if s.line.len == 0 {
         return Fed {
             session: s,
             used: 0,

@@ -7,7 +7,7 @@ ghost use Rattle.boxes.specs.Sound.{sound};
 ghost use Rattle.post.specs.Posting.{most_place};
 ghost use Rattle.rehearsal.specs.Alone.{Starts};
 ghost use Rattle.report.specs.Texts.{answer_most};
-ghost use Rattle.session.specs.Heard.{turn_text, unread, plan_line};
+ghost use Rattle.session.specs.Heard.{unread, plan_line};
 ghost use Rattle.session.specs.Hears.{ask_of, settled_text, Plain, Obeys, Hears};
 
 use crate::{Desk, draw};
@@ -16,8 +16,7 @@ use house::Order;
 use lines::Typed;
 use records::{Record, Refusal};
 
-// the desk after a line and how many bytes of text it gave; of an order, whether its box is sound, and, if it goes, the record that the box then
-// takes, or the one that stands for none
+// the desk after a line and how many bytes of text it gave; of an order, whether its box is sound, and the record that the box then takes, if it goes
 #[derive(Clone, Copy)]
 pub struct Heard {
     pub goes: Option<Record>,
@@ -26,20 +25,12 @@ pub struct Heard {
     pub known: bool,
 }
 
-// a refusal as its line
-fn say_no(why: Refusal, t: &mut [u8]) -> usize
-    requires { answer_most ≤ length t.old }
-    ensures { (result ≤ answer_most) × (result ≡ length (turn_text (Err why))) × (t.new ≡ onto (turn_text (Err why)) t.old) }
-{
-    report::answer_line(true, u8::from(why) as u32, t)
-}
-
 // a line that is unreadable or misplaced
 fn hear_unread(desk: Desk, t: &mut [u8]) -> Heard
     requires { answer_most ≤ length t.old }
     ensures { Plain desk unread result t.old t.new }
 {
-    let text = say_no(Refusal::Unreadable, t);
+    let text = report::answer_line(Err(Refusal::Unreadable), t);
     Heard {
         goes: None,
         desk,
@@ -78,7 +69,7 @@ fn hear_order(
     requires { (answer_most ≤ length t.old) × (known ≡ true → sound desk.plan x ≡ true) × (start ≤ most_place) × Starts desk.plan post.now used order start }
     ensures { Obeys desk used x post.now order result t.old t.new }
 {
-    let known = rehearsal::known_sound(desk.plan, known, x);
+    let known = known || soundness::is_sound(desk.plan, x);
     let fixed = draw::fix(desk);
     match rehearsal::judge(desk.plan, known, used, x, order, start, post) {
         Ok(r) => Heard {
@@ -88,7 +79,7 @@ fn hear_order(
             known,
         },
         Err(why) => {
-            let text = say_no(why, t);
+            let text = report::answer_line(Err(why), t);
             Heard {
                 goes: None,
                 desk: fixed,
@@ -137,12 +128,13 @@ pub fn hear(
 }
 
 // the answer to an order whose box has stepped
+#[tactic(auto, unfolding(laws::specs::Choice::pick))]
 pub fn say_settled(fits: bool, records: u16, t: &mut [u8]) -> usize
     requires { answer_most ≤ length t.old }
     ensures { (result ≤ answer_most) × (result ≡ length (settled_text fits records)) × (t.new ≡ onto (settled_text fits records) t.old) }
 {
-    if fits {
-        return report::answer_line(false, records as u32, t);
+    if !fits {
+        return report::answer_line(Err(Refusal::PostFull), t);
     }
-    say_no(Refusal::PostFull, t)
+    report::answer_line(Ok(records as u32), t)
 }

@@ -1,21 +1,20 @@
 // One line read out of a chunk, and its order settled over its box.
 // The promises stand in specs/Asked.antt and specs/Turned.antt.
-ghost use Rattle.std.specs.Prelude.{true, ◌≡◌, ◌≤◌, ◌<◌, length, get_or, take};
-ghost use Rattle.lines.specs.Parts.{line_feed};
+ghost use Rattle.std.specs.Prelude.{true, ◌≡◌, ◌≤◌, ◌<◌, length};
 ghost use Rattle.report.specs.Texts.{answer_most};
 ghost use Rattle.boxes.specs.Sound.{sound};
 ghost use Rattle.post.specs.Posting.{most_place};
 ghost use Rattle.post.specs.Index.{Indexed};
 ghost use Rattle.rehearsal.specs.Alone.{Starts};
-ghost use Rattle.lines.specs.Feed.{Reading, all_read};
 ghost use Rattle.session.specs.Hears.{ask_of};
-ghost use Rattle.session.specs.World.{World, act};
-ghost use Rattle.session.specs.Asked.{Asks};
+ghost use Rattle.session.specs.Asked.{ReadsOn, Asks};
 ghost use Rattle.session.specs.Turned.{Finishes, Turns};
 
 use crate::{Desk, hear};
 use boxes::BoxState;
 use lines::{LineState, Typed};
+use post::Index;
+use rehearsal::Place;
 
 // the line after some bytes, and the place of the LF that ends it, or the end of the bytes
 #[derive(Clone, Copy)]
@@ -24,17 +23,19 @@ struct Scan {
     at: usize,
 }
 
-// what comes in a chunk from a place on: the line that is then coming, and the place behind. Of a line that ended: what it says,
-// its box, where the record begins that it carries; how far the index goes
+// what comes in a chunk from a place on: the line that is then coming, the place behind, and the line that ended, if one did
 #[derive(Clone, Copy)]
 pub struct Asked {
     pub line: LineState,
-    pub typed: Typed,
     pub next: usize,
-    pub at: usize,
-    pub start: usize,
-    pub count: usize,
-    pub ended: bool,
+    pub ended: Option<Line>,
+}
+
+// a line that ended: what it says, and which box it asks
+#[derive(Clone, Copy)]
+pub struct Line {
+    pub typed: Typed,
+    pub place: Place,
 }
 
 // an order is done: how much of the post is used, if its records fit, and how many bytes of text it gave
@@ -58,60 +59,50 @@ pub struct Turned {
 // the rest of a line, up to its LF or the end of the chunk
 fn read_on(line: LineState, chunk: &[u8], from: usize) -> Scan
     requires { from ≤ length chunk.now }
-    ensures { (from ≤ result.at) × (result.at ≤ length chunk.now) × (result.at < length chunk.now → get_or chunk.now result.at 0 ≡ line_feed) × ((q : Reading World) → (all_read act q (take from chunk.now)).line ≡ line → all_read act q (take result.at chunk.now) ≡ record { line = result.line; state = (all_read act q (take from chunk.now)).state }) }
+    ensures { ReadsOn line chunk.now from result }
 {
-    let n = chunk.len();
-    let mut cur = line;
-    for i in from..n {
-        let byte = chunk[i];
-        if byte == b'\n' {
-            return Scan { line: cur, at: i };
-        }
-        cur = lines::push(cur, byte);
+    let rest = &chunk[from..];
+    let len = rest
+        .iter()
+        .position(|&byte| byte == b'\n')
+        .unwrap_or(rest.len());
+    let line = rest[..len]
+        .iter()
+        .fold(line, |held, &byte| lines::push(held, byte));
+    Scan {
+        line,
+        at: from + len,
     }
-    Scan { line: cur, at: n }
 }
 
 // the rest of a line, and what it asks
-pub fn ask(
+pub fn ask<const N: usize>(
     line: LineState,
     desk: Desk,
     used: usize,
     chunk: &[u8],
     from: usize,
     post: &[u8],
-    index: &mut [u16],
-    count: usize,
+    index: &mut Index<N>,
 ) -> Asked
-    requires { (from < length chunk.now) × Indexed desk.plan post.now used index.old count }
-    ensures { Asks line desk used chunk.now from post.now count index.old result index.new }
+    requires { (from < length chunk.now) × Indexed desk.plan post.now used index.old }
+    ensures { Asks line desk used chunk.now from post.now index.old result index.new }
 {
     let scan = read_on(line, chunk, from);
-    let end = scan.at;
-    let whole = scan.line;
-    let typed = lines::order_held(whole);
-    if chunk.len() <= end {
+    if chunk.len() <= scan.at {
         return Asked {
-            line: whole,
-            typed: typed,
-            next: end,
-            at: 0,
-            start: 0,
-            count: count,
-            ended: false,
+            line: scan.line,
+            next: scan.at,
+            ended: None,
         };
     }
-    let plan = desk.plan;
+    let typed = lines::order_held(scan.line);
     let order = hear::order_of(typed);
-    let place = rehearsal::find(plan, desk.fixed, used, order, post, index, count);
+    let place = rehearsal::find(desk.plan, desk.fixed, used, order, post, index);
     Asked {
         line: lines::no_line(),
-        typed: typed,
-        next: end + 1,
-        at: place.at,
-        start: place.start,
-        count: place.count,
-        ended: true,
+        next: scan.at + 1,
+        ended: Some(Line { typed, place }),
     }
 }
 

@@ -2,7 +2,7 @@
 // What each function means stands in specs/Sound.antt of boxes.
 ghost use Rattle.std.specs.Prelude.{◌≡◌};
 ghost use Rattle.boxes.specs.Sound.{range_sound, ballots_sound, table_sound, sent_sound, list_sound};
-ghost use Rattle.soundness.specs.Lists.{entry_sound, place_sound};
+ghost use Rattle.soundness.specs.Lists.{entry_sound, no_entry, place_sound};
 
 use boxes::{BoxState, Core, Listed};
 use house::{District, Plan, Stamp};
@@ -17,7 +17,7 @@ pub fn range_sound(plan: Plan, x: BoxState) -> bool
     house::is_box(plan, x.core.own) && house::time_fits(x.core.clock)
 }
 
-#[tactic(auto, unfolding(boxes::specs::Sound::ballots_sound))]
+#[tactic(auto, unfolding(boxes::specs::Sound::ballots_sound, house::specs::Pairs::ballot_lt, house::specs::Pairs::same_ballot))]
 pub fn ballots_sound(plan: Plan, x: BoxState) -> bool
     ensures { result ≡ ballots_sound plan x }
 {
@@ -29,8 +29,8 @@ pub fn ballots_sound(plan: Plan, x: BoxState) -> bool
         ..
     } = x.core;
     let home = house::home_of(plan, own);
-    !house::ballot_below(ballot, cballot)
-        && (boxes::is_recovering(status) || house::same_ballot(cballot, ballot))
+    cballot <= ballot
+        && (boxes::is_recovering(status) || cballot == ballot)
         && house::none_or_in(plan, home, ballot)
         && house::none_or_in(plan, home, cballot)
         && (!boxes::is_leader(status) || house::ballot_of(own, cballot))
@@ -48,22 +48,32 @@ pub fn table_sound(plan: Plan, x: BoxState) -> bool
 pub fn sent_sound(plan: Plan, x: BoxState) -> bool
     ensures { result ≡ sent_sound plan x }
 {
-    (0..house::MOST_JOBS).all(|j| house::is_job(plan, j) || !x.core.sent[j as usize])
+    (0..house::MOST_JOBS)
+        .zip(&x.core.sent)
+        .all(|(j, sent)| house::is_job(plan, j) || !*sent)
 }
 
 // an entry behind one of stamp `last`; `again`: its job stands before it too
-#[tactic(auto, unfolding(crate::specs::Lists::entry_sound))]
+#[tactic(auto, unfolding(crate::specs::Lists::entry_sound, house::specs::Pairs::stamp_lt))]
 fn entry_sound(plan: Plan, home: District, first: bool, last: Stamp, again: bool, e: Listed) -> bool
     ensures { result ≡ entry_sound plan home first last again e }
 {
     house::named(plan, e.job, home)
         && house::stamp_named(plan, e.job, e.stamp)
-        && (first || house::stamp_below(last, e.stamp))
+        && (first || last < e.stamp)
         && !again
 }
 
+// nothing is listed behind the last place
+#[tactic(auto, unfolding(crate::specs::Lists::no_entry, house::specs::Pairs::is_no_stamp, house::specs::Pairs::same_stamp))]
+fn is_unlisted(e: Listed) -> bool
+    ensures { result ≡ no_entry e }
+{
+    e.job == 0 && e.stamp == house::no_stamp()
+}
+
 // a place of the list, or one behind it
-#[tactic(auto, unfolding(crate::specs::Lists::place_sound, crate::specs::Lists::no_entry, laws::specs::Choice::pick))]
+#[tactic(auto, unfolding(crate::specs::Lists::place_sound, laws::specs::Choice::pick))]
 fn place_sound(
     plan: Plan,
     home: District,
@@ -78,7 +88,7 @@ fn place_sound(
     if listed {
         return entry_sound(plan, home, first, last, again, e);
     }
-    e.job == 0 && house::is_no_stamp(e.stamp)
+    is_unlisted(e)
 }
 
 // one pass: a job is flagged where it is listed, and before the first entry stands the first itself

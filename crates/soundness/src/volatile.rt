@@ -1,18 +1,27 @@
 // The volatile part of a sound box: kept ACCEPTs, marks and votes.
 // What each function means stands in specs/Sound.antt of boxes.
-ghost use Rattle.std.specs.Prelude.{◌≡◌};
+ghost use Rattle.std.specs.Prelude.{◌≡◌, ◌&&◌};
+ghost use Rattle.house.specs.Pairs.{is_no_ballot, is_no_stamp};
 ghost use Rattle.boxes.specs.Sound.{all_kept_sound, all_marks_sound, unvoted, vote_sound};
 ghost use Rattle.soundness.specs.Pairs.{pair_sound, unnamed_below, job_marks_sound};
 
 use boxes::{BoxState, Core, Vote};
-use house::{Ballot, District, Plan, Stamp};
+use house::{Ballot, BoxNo, District, Plan, Stamp};
+
+// no ACCEPT is kept here
+#[tactic(auto, unfolding(house::specs::Pairs::is_no_ballot, house::specs::Pairs::is_no_stamp, house::specs::Pairs::same_ballot, house::specs::Pairs::same_stamp))]
+fn is_unkept(b: Ballot, s: Stamp) -> bool
+    ensures { result ≡ (is_no_ballot b && is_no_stamp s) }
+{
+    b == house::no_ballot() && s == house::no_stamp()
+}
 
 // an ACCEPT kept for a named district, or none: most places have none, and nothing more is asked of them
 #[tactic(auto, unfolding(crate::specs::Pairs::pair_sound))]
 fn pair_sound(plan: Plan, job: u8, d: District, b: Ballot, s: Stamp) -> bool
     ensures { result ≡ pair_sound plan job d b s }
 {
-    (house::is_no_ballot(b) && house::is_no_stamp(s))
+    is_unkept(b, s)
         || (house::named(plan, job, d) && house::ballot_in(plan, d, b) && house::stamp_of(d, s))
 }
 
@@ -41,7 +50,7 @@ fn unnamed_below(plan: Plan, job: u8, marks: u32) -> bool
     })
 }
 
-#[tactic(auto, unfolding(crate::specs::Pairs::job_marks_sound))]
+#[tactic(auto, using(crate::proofs::laws::Pairs::unmarked), unfolding(crate::specs::Pairs::job_marks_sound))]
 fn job_marks_sound(plan: Plan, job: u8, marks: u32) -> bool
     ensures { result ≡ job_marks_sound plan job marks }
 {
@@ -51,15 +60,17 @@ fn job_marks_sound(plan: Plan, job: u8, marks: u32) -> bool
 pub fn marks_sound(plan: Plan, x: BoxState) -> bool
     ensures { result ≡ all_marks_sound plan x }
 {
-    (0..house::MOST_JOBS).all(|j| job_marks_sound(plan, j, x.volatile.marks[j as usize]))
+    (0..house::MOST_JOBS)
+        .zip(&x.volatile.marks)
+        .all(|(j, marks)| job_marks_sound(plan, j, *marks))
 }
 
-#[tactic(auto, unfolding(boxes::specs::Sound::unvoted))]
+#[tactic(auto, unfolding(boxes::specs::Sound::unvoted, house::specs::Pairs::is_no_ballot, house::specs::Pairs::same_ballot))]
 fn is_unvoted(vote: Vote) -> bool
     ensures { result ≡ unvoted vote }
 {
-    vote.voter.0 == 0
-        && house::is_no_ballot(vote.cballot)
+    vote.voter == BoxNo(0)
+        && vote.cballot == house::no_ballot()
         && vote.clock == 0
         && rules::spare_rows(vote.table, 0)
 }

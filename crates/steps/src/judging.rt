@@ -1,6 +1,6 @@
 // What a record is answered, over the box that it comes to.
 // What each function means stands in specs/Step.antt of boxes.
-ghost use Rattle.std.specs.Prelude.{true, ◌≡◌, ◌≤◌, ◌<◌, eqb};
+ghost use Rattle.std.specs.Prelude.{true, ◌≡◌, ◌≤◌, eqb};
 ghost use Rattle.records.specs.Answers.{or_no};
 ghost use Rattle.records.specs.declared.answers.Refusal.TheVariants.{OtherBox};
 ghost use Rattle.records.specs.Format.{most_kind};
@@ -10,60 +10,27 @@ ghost use Rattle.boxes.specs.Sound.{sound};
 ghost use Rattle.steps.specs.Judged.{judged};
 ghost use Rattle.steps.specs.Judging.{Judging};
 
+use crate::said::{self, Said};
 use boxes::BoxState;
 use house::Plan;
-use records::{Answer, Handout, Proposal, Record, Refusal};
-
-// the answer to kinds 1 to 4
-fn judge_job(plan: Plan, x: BoxState, r: Record) -> Answer
-    requires { (1 ≤ r.kind) × (r.kind ≤ 4) }
-    ensures { result ≡ judged plan x (meaning r) }
-{
-    let ballot = r.ballots[0];
-    match r.kind {
-        records::MULTICAST => jobs::decide_multicast(plan, x, r.job),
-        records::ACCEPT => {
-            let y = Proposal {
-                ballot,
-                stamp: r.stamps[0],
-            };
-            jobs::decide_accept(plan, x, r.from, r.job, y)
-        }
-        records::ACCEPT_ACK => jobs::decide_accept_ack(plan, x, r.from, r.job, r.ballots),
-        _ => {
-            let y = Handout {
-                ballot,
-                local: r.stamps[0],
-                global: r.stamps[1],
-            };
-            jobs::decide_deliver(plan, x, r.job, y)
-        }
-    }
-}
-
-// the answer to kinds 5 to 8: no plan is asked
-fn judge_leader(x: BoxState, r: Record) -> Answer
-    requires { (4 < r.kind) × (r.kind ≤ most_kind) }
-    ensures { (plan : Plan) → result ≡ judged plan x (meaning r) }
-{
-    let ballot = r.ballots[0];
-    match r.kind {
-        records::NEWLEADER => leaders::decide_newleader(x, ballot),
-        records::NEWLEADER_ACK => leaders::decide_newleader_ack(x, r.from, ballot),
-        records::NEW_STATE => leaders::decide_new_state(x, ballot),
-        _ => leaders::decide_newstate_ack(x, ballot),
-    }
-}
+use records::{Answer, Record, Refusal};
 
 // the answer: the first of the tests 6 to 10 that fails
+#[tactic(auto, unfolding(crate::specs::Said::says, crate::specs::Judged::judged))]
 fn judge(plan: Plan, x: BoxState, r: Record) -> Answer
     requires { (1 ≤ r.kind) × (r.kind ≤ most_kind) }
     ensures { result ≡ judged plan x (meaning r) }
 {
-    if r.kind <= records::DELIVER {
-        return judge_job(plan, x, r);
+    match said::said_by(r) {
+        Said::Multicast(job) => jobs::decide_multicast(plan, x, job),
+        Said::Accept(job, y) => jobs::decide_accept(plan, x, r.from, job, y),
+        Said::AcceptAck(job, ballots) => jobs::decide_accept_ack(plan, x, r.from, job, ballots),
+        Said::Deliver(job, y) => jobs::decide_deliver(plan, x, job, y),
+        Said::Newleader(b) => leaders::decide_newleader(x, b),
+        Said::NewleaderAck(y) => leaders::decide_newleader_ack(x, r.from, y.ballot),
+        Said::NewState(y) => leaders::decide_new_state(x, y.ballot),
+        Said::NewstateAck(b) => leaders::decide_newstate_ack(x, b),
     }
-    judge_leader(x, r)
 }
 
 // a record that the reader took: 5 if it is for another box
@@ -71,7 +38,7 @@ fn judge_record(plan: Plan, x: BoxState, r: Record) -> Answer
     requires { (1 ≤ r.kind) × (r.kind ≤ most_kind) }
     ensures { result ≡ or_no (eqb r.to.0 (own_of x).0) OtherBox (judged plan x (meaning r)) }
 {
-    if r.to.0 == x.core.own.0 {
+    if r.to == x.core.own {
         return judge(plan, x, r);
     }
     Err(Refusal::OtherBox)

@@ -4,6 +4,7 @@
 
 mod acting;
 mod judging;
+mod said;
 
 pub use acting::act;
 pub use judging::judge_bytes;

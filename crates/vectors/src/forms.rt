@@ -6,7 +6,7 @@ use records::{Part, Record};
 use std::array;
 
 // how many bytes a line says at most
-const BYTES: usize = 1024;
+pub const BYTES: usize = 1024;
 
 // the signs of the first ballot and of the first stamp; those below are of rows
 const BALLOT: u8 = 0xb0;

@@ -1,12 +1,28 @@
 // Answers, bytes and records as text in hex. The form of a record stands at the head of ../stdin.
-// Nothing here asks the rules of a record: what is none is told by its own numbers.
-use house::{Ballot, Row, Stamp};
-use records::{Answer, Record};
+// Nothing here asks the rules of a record: what is none is told by its own numbers (NO_BALLOT, NO_STAMP, NO_ROW).
+use house::{Ballot, BoxNo, District, Row, Stamp};
+use records::{Record, Refusal};
 use std::io;
 
+const NO_BALLOT: Ballot = Ballot {
+    number: 0,
+    owner: BoxNo(0),
+};
+
+const NO_STAMP: Stamp = Stamp {
+    time: 0,
+    district: District(0),
+};
+
+const NO_ROW: Row = Row {
+    phase: 0,
+    local: NO_STAMP,
+    global: NO_STAMP,
+};
+
 // a space, and 0 for done or the number of the refusal
-pub fn show_answer(rt: &impl Print, answer: Answer) -> io::Result<()> {
-    let no = answer.map_or_else(u8::from, |()| 0);
+pub fn show_answer<T: Copy>(rt: &impl Print, answer: Result<T, Refusal>) -> io::Result<()> {
+    let no = answer.err().map_or(0, u8::from);
     print!(rt; " {no}")
 }
 
@@ -26,29 +42,19 @@ pub fn show_bytes(rt: &impl Print, s: &[u8]) -> io::Result<()> {
 
 // a ballot behind its place, unless it is none
 fn show_ballot(rt: &impl Print, place: u8, b: Ballot) -> io::Result<()> {
-    let number = b.number;
-    let owner = b.owner.0;
-    if (number == 0) & (owner == 0) {
+    if b == NO_BALLOT {
         return Ok(());
     }
-    show_byte(rt, place)?;
-    print!(rt; " {number:04x}")?;
-    show_byte(rt, owner)
-}
-
-fn no_stamp(s: Stamp) -> bool {
-    (s.time == 0) & (s.district.0 == 0)
+    print!(rt; " {place:02x} {:04x} {:02x}", b.number, b.owner.0)
 }
 
 fn show_both(rt: &impl Print, s: Stamp) -> io::Result<()> {
-    let time = s.time;
-    print!(rt; " {time:08x}")?;
-    show_byte(rt, s.district.0)
+    print!(rt; " {:08x} {:02x}", s.time, s.district.0)
 }
 
 // a stamp behind its place, unless it is none
 fn show_stamp(rt: &impl Print, place: u8, s: Stamp) -> io::Result<()> {
-    if no_stamp(s) {
+    if s == NO_STAMP {
         return Ok(());
     }
     show_byte(rt, place)?;
@@ -57,40 +63,27 @@ fn show_stamp(rt: &impl Print, place: u8, s: Stamp) -> io::Result<()> {
 
 // a row behind its place, unless it is none
 fn show_row(rt: &impl Print, place: u8, row: Row) -> io::Result<()> {
-    let local = row.local;
-    let global = row.global;
-    if (row.phase == 0) & no_stamp(local) & no_stamp(global) {
+    if row == NO_ROW {
         return Ok(());
     }
-    show_byte(rt, place)?;
-    show_byte(rt, row.phase)?;
-    show_both(rt, local)?;
-    show_both(rt, global)
-}
-
-fn show_rows(rt: &impl Print, table: [Row; 64]) -> io::Result<()> {
-    for i in 0..64u8 {
-        let at = i as usize;
-        let row = table[at];
-        show_row(rt, i, row)?;
-    }
-    Ok(())
+    print!(rt; " {place:02x} {:02x}", row.phase)?;
+    show_both(rt, row.local)?;
+    show_both(rt, row.global)
 }
 
 // kind, from, to, job, and every place of the struct that is not none
 pub fn show_record(rt: &impl Print, r: Record) -> io::Result<()> {
-    let ballots = r.ballots;
-    let stamps = r.stamps;
-    let table = r.table;
-    show_byte(rt, r.kind)?;
-    show_byte(rt, r.from.0)?;
-    show_byte(rt, r.to.0)?;
-    show_byte(rt, r.job)?;
-    show_ballot(rt, 0xb0, ballots[0])?;
-    show_ballot(rt, 0xb1, ballots[1])?;
-    show_ballot(rt, 0xb2, ballots[2])?;
-    show_ballot(rt, 0xb3, ballots[3])?;
-    show_stamp(rt, 0xc0, stamps[0])?;
-    show_stamp(rt, 0xc1, stamps[1])?;
-    show_rows(rt, table)
+    for b in [r.kind, r.from.0, r.to.0, r.job] {
+        show_byte(rt, b)?;
+    }
+    for (b, place) in r.ballots.iter().zip(0xb0..) {
+        show_ballot(rt, place, *b)?;
+    }
+    for (s, place) in r.stamps.iter().zip(0xc0..) {
+        show_stamp(rt, place, *s)?;
+    }
+    for (row, place) in r.table.iter().zip(0..) {
+        show_row(rt, place, *row)?;
+    }
+    Ok(())
 }

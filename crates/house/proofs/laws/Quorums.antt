@@ -7,9 +7,8 @@ use native.Mathlib.Omega.{arith}
 use lib.Count.{ones}
 use lib.Dec.{leb, ltb}
 use borrow.Author.Tests.{leb-true, lt-ltb, ltb-true, ltb-false}
-use Rattle.laws.specs.Choice.{pick}
 use Rattle.laws.proofs.laws.Choice.{pick_true, pick_both, pick_when, look, or_other, not_of}
-use Rattle.laws.proofs.laws.Fold.{upto_step, all_says}
+use Rattle.laws.proofs.laws.Fold.{all_says}
 use Rattle.laws.specs.Digits.{part, with_digit}
 use Rattle.laws.proofs.laws.Digits.{part_digit, part_low, digit_zero, digit_same, digit_other, flags, flags_length, flags_at, flags_ones}
 use Rattle.laws.specs.Majority.{majority}
@@ -33,11 +32,6 @@ mark_same m p h = rw (pick_true (with_digit m p.0) m (lt-ltb p.0 most_marks h)) 
 pub mark_other : (m : ℕ) (p q : BoxNo) → p.0 < most_marks → q.0 ≢ p.0 → has_mark (marked m p) q ≡ has_mark m q
 unfolding has_mark marked
 mark_other m p q h n = rw (pick_true (with_digit m p.0) m (lt-ltb p.0 most_marks h)) (digit_other m p.0 q.0 n)
-
--- a set of boxes that pass a test, box by box
-pub marks_more : (t : BoxNo → Bool) (p : ℕ) → pick (t (box_no p)) (marked (marks_of t p) (box_no p)) (marks_of t p) ≡ marks_of t (p + 1)
-unfolding marks_of
-marks_more t p = upto_step (λ (m q : ℕ). pick (t (box_no q)) (marked m (box_no q)) m) no_marks p
 
 marks_beyond : (t : BoxNo → Bool) (n p : ℕ) → n ≤ p → n ≤ most_marks → has_mark (marks_of t n) (box_no p) ≡ false
 unfolding marks_of

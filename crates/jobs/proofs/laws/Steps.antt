@@ -1,32 +1,22 @@
--- The records of kinds 1 to 3, a post and a retry as one struct sent to the boxes that are meant; steps that are never refused.
+-- The records of kinds 2 and 3 as one struct sent to the boxes that are meant; steps that are never refused.
 use Prim.Native.Nat.{ℕ}
 use mathlib.Core.Bool.{true}
 use mathlib.Core.Path.{◌≡◌, refl}
 use Rattle.laws.proofs.laws.Choice.{pick_both}
 use Rattle.house.specs.Marks.{marks_of, named_boxes}
-use Rattle.house.specs.Plan.{boxes_of, office_of, plan_sound}
+use Rattle.house.specs.Plan.{boxes_of, plan_sound}
 use Rattle.house.specs.declared.Plan.{Plan}
-use Rattle.records.specs.Rec.{multicast, accept, accept_ack, carried}
+use Rattle.records.specs.Rec.{accept, accept_ack, carried}
 use Rattle.boxes.specs.Box.{own_of, row_at}
 use Rattle.boxes.specs.Out.{result_of}
-use Rattle.boxes.specs.Post.{posts}
-use Rattle.boxes.specs.Retry.{retries}
 use Rattle.boxes.specs.Multicast.{accepts}
 use Rattle.boxes.specs.Accept.{kept_vector, kept_leader, acks, all_kept, when_kept}
 use Rattle.boxes.specs.AcceptAck.{enough, when_marked}
 use Rattle.boxes.specs.declared.BoxState.{BoxState}
 use Rattle.sending.specs.Sends.{Sends}
-use Rattle.sending.proofs.laws.Kinds.{multicasts_sent, accepts_sent, acks_sent}
+use Rattle.sending.proofs.laws.Kinds.{accepts_sent, acks_sent}
 
 module _ (P : Plan) (s : plan_sound P ≡ true) (j : ℕ) where
-  pub sent_posts : Sends P (posts P j) (named_boxes P j) (carried (multicast (office_of P) (office_of P) j))
-  unfolding posts
-  sent_posts = multicasts_sent P s (office_of P) (office_of P) j
-
-  pub sent_retries : (x : BoxState) → Sends P (retries P x j) (named_boxes P j) (carried (multicast (own_of x) (own_of x) j))
-  unfolding retries
-  sent_retries x = multicasts_sent P s (own_of x) (own_of x) j
-
   pub sent_accepts : (y : BoxState)
       → Sends P (accepts P y j) (named_boxes P j)
       (carried (accept (own_of y) (own_of y) j (record { ballot = y.core.cballot; stamp = (row_at y j).local })))

@@ -6,16 +6,17 @@ use Rattle.std.proofs.Math.Bool.{and-true, or-false, and_assoc}
 use Rattle.std.specs.List.{fold, filter, range_with_len, list_all, list_any, FoldsTo, zip}
 use Rattle.std.specs.Option.{MatchOption}
 use Rattle.std.specs.Iterator.{YieldsThen, Drains}
-use Rattle.std.specs.Iterator.Adapters.{map_source, map_callee, filter_source, filter_callee, filter_steps}
+use Rattle.std.specs.Iterator.Adapters.{map_source, map_callee, filter_source, filter_callee, filter_steps, zip_first, zip_second}
 use Rattle.std.specs.Fn.{Called, CalledAt}
 use Rattle.std.specs.Array.{IsFromFnResultFrom, IsFromFnResult}
 use Rattle.std.specs.declared.ops.Range.{Range}
 use Rattle.std.specs.declared.iter.Map.{Map}
 use Rattle.std.specs.declared.iter.Filter.{Filter}
+use Rattle.std.specs.declared.iter.Zip.{Zip}
 use Rattle.std.specs.Slice.Iter.{iter_rest}
 use Rattle.std.proofs.iter.Yields.{nat_range_steps, fronts}
 use Rattle.std.proofs.lemmas.List.Folds.{fold-map, list_all-append, list_any-append, list_all_more}
-use Rattle.std.proofs.lemmas.Iterator.{maps, YieldsList-from_range, YieldsList-from_slice, YieldsList-from_map}
+use Rattle.std.proofs.lemmas.Iterator.{maps, zips, YieldsList-from_range, YieldsList-from_slice, YieldsList-from_map, YieldsList-from_zip}
 use Rattle.std.proofs.Math.Seq.{take-length}
 use lib.ListN.{get_or-eq_default}
 use Rattle.std.proofs.lemmas.List.{take_all, drop_all, drop-append-le}
@@ -143,7 +144,7 @@ module _ {A : Type 0} (t : ℕ × A → Bool) (d : A) (passes : (i : ℕ) → t 
       ∙ ap (λ j. t (j, x) && all_below (λ i. t (a + suc i, get_or l i d)) n) (sym first)
       ∙ sym (all_first (λ i. t (a + i, get_or (x ∷ l) i d)) n)
 
-  pub all_zip : (n : ℕ) (l : List A) → list_all t (zip (range_with_len 0 n) l) ≡ all_below (λ i. t (i, get_or l i d)) n
+  all_zip : (n : ℕ) (l : List A) → list_all t (zip (range_with_len 0 n) l) ≡ all_below (λ i. t (i, get_or l i d)) n
   unfolding all_below
   all_zip n l = zip_from 0 n l ∙ upto_same _ _ true n (λ b i h. let e : 0 + i ≡ i = omega arith in ap (λ j. b && t (j, get_or l i d)) e)
 
@@ -185,6 +186,17 @@ module _ {A F : Type 0} {g : Mut F (Bor A × Unit {0}) Bool} (t : A → Bool) (l
       → iter_rest s ≡ take n l → n ≤ length l → ((x : Bor A) (b : Bool) (q : F) → Called g f (x, tt) b q → (q ≡ f) × (b ≡ t x.now))
       → r ≡ all_below (λ i. t (get_or l i d)) n
   all_in_front ran from far says = all_from_yields_List t u f r ran (YieldsList-from_slice (take n l) from) says ∙ all_front t l d n far
+
+-- of `(0..n).zip(xs)`, where what stands behind the last element passes
+module _ {A F : Type 0} {g : Mut F ((ℕ × Bor A) × Unit {0}) Bool} (t : ℕ × A → Bool) (n : ℕ) (l : List A) (d : A) {s : Zip (Range ℕ) (Iter A)}
+    (u : Zip (Range ℕ) (Iter A)) {f : F} {r : Bool} where
+  pub all_in_zip : (xs : List (ℕ × Bor A)) × (o : Option (ℕ × Bor A)) × (j : F) × YieldsThen (zips nat_range_steps fronts) s xs o u
+      × FoldsTo (λ p x q. Called g p (x, tt) true q) f xs j × MatchOption o (r ≡ true) (λ x. (r ≡ false) × ((h : F) × Called g j (x, tt) false h))
+      → zip_first s ≡ record { start = 0; end = n } → iter_rest (zip_second s) ≡ l → ((i : ℕ) → t (i, d) ≡ true)
+      → ((x : ℕ × Bor A) (b : Bool) (q : F) → Called g f (x, tt) b q → (q ≡ f) × (b ≡ t (x.0, x.1.now))) → r ≡ all_below (λ i. t (i, get_or l i d)) n
+  all_in_zip ran first second passes says =
+      all_from_yields_List t u f r ran (YieldsList-from_zip (YieldsList-from_range 0 n n first (omega arith)) (YieldsList-from_slice l second)) says
+      ∙ all_zip t d passes n l
 
 module _ {F B : Type 0} {g : Mut F (ℕ × Unit {0}) B} (h : ℕ → B) (d : B) {f : F}
     (says : (x : ℕ) (b : B) (q : F) → Called g f (x, tt) b q → (q ≡ f) × (b ≡ h x)) where

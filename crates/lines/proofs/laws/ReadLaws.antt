@@ -18,7 +18,7 @@ use Rattle.lines.specs.declared.Typed.TheVariants.{Given, Unreadable}
 use Rattle.lines.specs.Orders.{districts, job, post, stand, retry, cut, carry, longest, one_number, order_of_words, order_of_line}
 use Rattle.lines.specs.Held.{no_line, pushed, order_held}
 use Rattle.lines.specs.Reads.{order_word, order_numbers, among, are_order, readable, first_word, numbers_behind, LineRead, NothingHeld, ByteHeld, HeldRead}
-use Rattle.lines.proofs.laws.Reads.{only_order, only_nothing, only_byte}
+use Rattle.lines.proofs.laws.Reads.{only_order, only_nothing}
 
 -- an order has this word and these numbers if the test holds, none if it fails
 abbrev Says : Typed → Bool → List ℕ → List ℕ → Type 0
@@ -94,6 +94,3 @@ nothing_is h = only_nothing h (record { none = refl; blank = refl })
 
 pub byte_held : (s : LineState) (b : ℕ) {r : LineState} → r ≡ pushed s b → ByteHeld s b r
 byte_held s b e = record { count = ap (λ (x : LineState). x.len) e; bytes = ap (λ (x : LineState). x.bytes) e }
-
-pub byte_is : (s : LineState) (b : ℕ) {r : LineState} → ByteHeld s b r → r ≡ pushed s b
-byte_is s b h = only_byte h (byte_held s b refl)

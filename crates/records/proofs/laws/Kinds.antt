@@ -1,15 +1,11 @@
 -- What a struct of each kind says: the cases of `meaning`, one law a kind.
 use mathlib.Core.Path.{◌≡◌}
 use Rattle.laws.specs.Choice.{pick}
-use Rattle.records.specs.Rec.{multicast, accept, accept_ack, deliver, newleader, newleader_ack, new_state, newstate_ack, meaning, ballot_no}
+use Rattle.records.specs.Rec.{accept, accept_ack, deliver, newleader, newleader_ack, new_state, newstate_ack, meaning, ballot_no}
 use Rattle.records.specs.Rec.{stamp_no}
 use Rattle.records.specs.declared.Record.{Record}
 
 module _ (r : Record) where
-  pub says_multicast : r.kind ≡ 1 → meaning r ≡ multicast r.from r.to r.job
-  unfolding meaning pick
-  says_multicast e = rw e
-
   pub says_accept : r.kind ≡ 2 → meaning r ≡ accept r.from r.to r.job (record { ballot = ballot_no r 0; stamp = stamp_no r 0 })
   unfolding meaning pick
   says_accept e = rw e

@@ -2,6 +2,7 @@
 use Prim.Native.Nat.{ℕ, ◌+◌, ◌<◌}
 use mathlib.Core.Bool.{Bool, true, false, ◌&&◌}
 use mathlib.Core.List.{List}
+use mathlib.Core.Logic.{◌⊎◌, ⊎_elim}
 use mathlib.Core.Path.{◌≡◌, refl, sym, ap, ◌∙◌}
 use native.Mathlib.Omega.{arith}
 use lib.ListN.{length, get_or}
@@ -20,6 +21,7 @@ use Rattle.records.specs.declared.answers.Refusal.{Refusal}
 use Rattle.records.specs.declared.answers.Refusal.TheVariants.{NotSound, NoSuch}
 use Rattle.post.specs.Posting.{start_of, to_box}
 use Rattle.post.specs.Index.{Indexed}
+use Rattle.post.specs.declared.Index.{Index}
 use Rattle.boxes.specs.Box.{fresh}
 use Rattle.boxes.specs.Out.{Out, does, guard}
 use Rattle.boxes.specs.declared.BoxState.{BoxState}
@@ -53,10 +55,10 @@ whose_is P n s (Cut p) = refl
 whose_is P n s (Carry k) = refl
 
 -- the box at the place that was found stands there
-pub found_stands : (P : Plan) (fixed : Bool) (n : Night) (s : List ℕ) (o : Order) (count : ℕ) (r : Place) (index : List ℕ)
-    → Found P fixed n.used o s count r index
+pub found_stands : (P : Plan) (fixed : Bool) (n : Night) (s : List ℕ) (o : Order) {N : ℕ} (index : Index N) (r : Place) (later : Index N)
+    → Found P fixed n.used o s index r later
     → Stands P n.used (box_in n r.at) s o n r.at
-found_stands P fixed n s o count r index F =
+found_stands P fixed n s o index r later F =
     record { used_is = refl; box_is = refl; asked = λ p h. F.asked p (sym (exists_is P n s o) ∙ h) ∙ sym (whose_is P n s o) }
 
 pub fits_is : (P : Plan) (n : Night) (s : List ℕ) (o : Out) → if_fits P n s o ≡ if_fits P (here n.used) s o
@@ -96,9 +98,9 @@ alone_is P used x s o n at S =
 pub starts_carry : (P : Plan) (s : List ℕ) (used k at : ℕ) → at ≡ start_of P s used k → Starts P s used (Carry k) at
 starts_carry P s used k at e m q = let h : k ≡ m = cc in e ∙ ap (start_of P s used) h
 
-pub found_as : {P : Plan} {fixed : Bool} {used : ℕ} {o p : Order} {s : List ℕ} {count : ℕ} {r : Place} {index : List ℕ} → o ≡ p
-    → Found P fixed used p s count r index
-    → Found P fixed used o s count r index
+pub found_as : {P : Plan} {fixed : Bool} {used : ℕ} {o p : Order} {s : List ℕ} {N : ℕ} {index later : Index N} {r : Place} → o ≡ p
+    → Found P fixed used p s index r later
+    → Found P fixed used o s index r later
 found_as e F = rw e F
 
 -- a box below the plan's number of boxes has its own place
@@ -115,25 +117,30 @@ module _ (P : Plan) (r p : ℕ) (is : p < most_boxes → r ≡ p) where
       in_night sound (and_right (ltb (start_of P s used k) used) (ltb p (boxes_of P)) q) ∙ f
 
   -- an order that carries nothing
-  module _ {fixed : Bool} {used : ℕ} {s : List ℕ} {count : ℕ} {index : List ℕ} (I : Indexed P s used index count) where
+  module _ {fixed : Bool} {used : ℕ} {s : List ℕ} {N : ℕ} {index : Index N} (I : Indexed P s used index) where
     here_found : (o : Order) → r < most_boxes → ((k : ℕ) → o ≡ Carry k → ⊥)
         → (plan_sound P ≡ true → exists P (here used) s o ≡ true → r ≡ whose P (here used) s o)
-        → Found P fixed used o s count (record { at = r; start = 0; count = count }) index
+        → Found P fixed used o s index (record { at = r; start = 0 }) index
     here_found o l n w = record { at_low = l; asked = w; start_low = omega arith; starts = λ k q. absurd (n k q); indexed = I; stays = λ h. refl }
 
-    pub post_found : (j : ℕ) → r < most_boxes → p ≡ 0 → Found P fixed used (Post j) s count (record { at = r; start = 0; count = count }) index
+    pub post_found : (j : ℕ) → r < most_boxes → p ≡ 0 → Found P fixed used (Post j) s index (record { at = r; start = 0 }) index
     unfolding whose
     post_found j l z = here_found (Post j) l (λ k q. let w : ◌≡◌ {A = ℕ} 0 1 = cc in omega arith) (λ h e. is (omega (arith, z)) ∙ z)
 
-    pub stand_found : r < most_boxes → Found P fixed used (Stand p) s count (record { at = r; start = 0; count = count }) index
+    stand_found : r < most_boxes → Found P fixed used (Stand p) s index (record { at = r; start = 0 }) index
     unfolding whose exists
     stand_found l = here_found (Stand p) l (λ k q. let w : ◌≡◌ {A = ℕ} 0 1 = cc in omega arith) (λ h e. in_night h e)
 
-    pub retry_found : (j : ℕ) → r < most_boxes → Found P fixed used (Retry p j) s count (record { at = r; start = 0; count = count }) index
+    retry_found : (j : ℕ) → r < most_boxes → Found P fixed used (Retry p j) s index (record { at = r; start = 0 }) index
     unfolding whose exists
     retry_found j l =
         here_found (Retry p j) l (λ k q. let w : ◌≡◌ {A = ℕ} 0 1 = cc in omega arith) (λ h e. in_night h (and_left (ltb p (boxes_of P)) (is_job P j) e))
 
-    pub cut_found : r < most_boxes → Found P fixed used (Cut p) s count (record { at = r; start = 0; count = count }) index
+    cut_found : r < most_boxes → Found P fixed used (Cut p) s index (record { at = r; start = 0 }) index
     unfolding whose exists
     cut_found l = here_found (Cut p) l (λ k q. let w : ◌≡◌ {A = ℕ} 0 1 = cc in omega arith) (λ h e. in_night h e)
+
+    pub box_found : {o : Order} → r < most_boxes → (o ≡ Stand p) ⊎ (((j : ℕ) × (o ≡ Retry p j)) ⊎ (o ≡ Cut p))
+        → Found P fixed used o s index (record { at = r; start = 0 }) index
+    box_found l =
+        ⊎_elim (λ e. found_as e (stand_found l)) (λ q. ⊎_elim (λ e. found_as e.1 (retry_found e.0 l)) (λ e. found_as e (cut_found l)) q)

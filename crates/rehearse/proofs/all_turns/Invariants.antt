@@ -1,13 +1,8 @@
--- `rehearse::all_turns` meets its contract.
-use Rattle.rehearse.specs.Turns.{Turned, most_turns}
-use Prim.Native.Nat.{◌+◌}
-use lib.ListN.{length}
-use mathlib.Core.Path.{◌≡◌}
+-- The loop of `rehearse::all_turns`: so many turns have gone by, and each said that there is another.
+use Rattle.std.proofs.Common.{◌≡◌, length, Ok}
+use Rattle.rehearse.specs.declared.Flow.TheVariants.{More}
+use Rattle.rehearse.specs.Turns.{Turned}
 use Rattle.rehearse.proofs.all_turns.Given as goal
 
-abbrev pub invariant-loop-turns : goal.invariant-loop-turns
-invariant-loop-turns l =
-    (length l.post ≡ length l.initial.post) × (T : Turned l.initial.cur l.initial.post l.cur l.next l.post) × (length T.turns + l.turns ≡ most_turns)
-
-abbrev pub decreases-loop-turns : goal.decreases-loop-turns
-decreases-loop-turns l = l.turns
+abbrev pub invariant-loop : goal.invariant-loop
+invariant-loop l = (T : Turned l.initial.session l.initial.post l.session (Ok More) l.post) × (length T.turns ≡ l.counter)

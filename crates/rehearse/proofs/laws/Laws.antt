@@ -1,14 +1,11 @@
--- What the proofs of the code use: the decision as tests, one turn more, and a text that stands over the front of a tray.
-use Prim.Native.Nat.{ℕ, zero, suc, ◌+◌, ◌-◌, ◌<◌, ◌≤◌}
-use mathlib.Core.Bool.{Bool, true}
+-- What the proofs of the code use: one turn more, and a text that stands over the front of a tray.
+use Prim.Native.Nat.{ℕ, ◌+◌, ◌≤◌}
+use Rattle.std.specs.Prelude.{Ok, Err}
+use mathlib.Core.Bool.{true}
 use mathlib.Core.List.{List, [], ◌∷◌, ◌++◌, foldl, foldl-append, map, map-append}
 use mathlib.Core.Path.{◌≡◌, refl, sym, ap, subst, ◌∙◌}
 use native.Mathlib.Omega.{arith}
-use lib.IntN.{ℤ, pos, negsuc}
 use lib.ListN.{length, take, drop, length-append}
-use lib.Signed.{lt_z, le_z}
-use borrow.Author.Tests.{le-ltb, lt-leb}
-use Rattle.laws.specs.Choice.{pick}
 use Rattle.laws.proofs.laws.Choice.{never}
 use Rattle.laws.specs.Tray.{onto}
 use Rattle.laws.proofs.laws.Tray.{onto_front}
@@ -16,22 +13,16 @@ use Rattle.lines.specs.Feed.{Reading, all_read}
 use Rattle.session.specs.declared.Session.{Session}
 use Rattle.session.specs.World.{World, act}
 use Rattle.session.specs.Session.{within, session_of, chunk_of}
+use Rattle.session.specs.Promises.{Leaves}
+use Rattle.session.specs.declared.feed.Fed.{Fed}
+use Rattle.rehearse.specs.Printed.{last_words, LastSaid}
 use Rattle.session.proofs.laws.SessionLaws.{behind_text, all_says}
-use Rattle.rehearse.specs.declared.Next.{Next}
-use Rattle.rehearse.specs.declared.Next.TheVariants.{More, End, ReadFailed, WriteFailed}
-use Rattle.rehearse.specs.Turns.{Turn, given, next_of, goes_on, read_in, Went, begun, on, OneTurn, Turned}
-
--- the tests of the code make the decision
-pub next_tests : (got : ℤ) (written : Bool)
-    → pick (lt_z got (pos 0)) ReadFailed (pick (le_z got (pos 0)) End (pick written More WriteFailed)) ≡ next_of got written
-unfolding next_of pick
-next_tests (negsuc k) written = refl
-next_tests (pos zero) written = refl
-next_tests (pos (suc k)) written = rw (le-ltb (suc k) 0 (omega arith), lt-leb (suc k) 0 (omega arith))
+use Rattle.rehearse.specs.declared.Flow.TheVariants.{More, End}
+use Rattle.rehearse.specs.Turns.{Turn, Next, given, goes_on, read_in, Went, begun, on, OneTurn, Turned}
 
 -- ---- one turn more
 
-abbrev pub none_yet : (s : Session) (lent : List ℕ) → Turned s lent s More lent
+abbrev pub none_yet : (s : Session) (lent : List ℕ) → Turned s lent s (Ok More) lent
 none_yet s lent = record { turns = []; went = begun; session = refl; post = refl }
 
 read_on : (s : Session) (lent : List ℕ) (ts : List Turn) (t : Turn)
@@ -42,8 +33,7 @@ read_on s lent ts t =
     ∙ sym (ap (foldl (all_read act) (within s lent)) (map-append given ts (t ∷ [])) ∙ foldl-append (all_read act) (within s lent) (map given ts) (given t ∷ []))
 
 -- after turns that say More, one turn more
-module _ {s cur r : Session} {lent post later : List ℕ} {before next : Next} (T : Turned s lent cur before post) (m : before ≡ More)
-    (o : OneTurn cur post r next later) where
+module _ {s cur r : Session} {lent post later : List ℕ} {next : Next} (T : Turned s lent cur (Ok More) post) (o : OneTurn cur post r next later) where
   fed : behind_text (read_in s lent T.turns).state.text (chunk_of cur post (given o.turn)) ≡ read_in s lent (T.turns ++ (o.turn ∷ []))
   fed = rw (T.session, T.post) (read_on s lent T.turns o.turn)
 
@@ -51,21 +41,20 @@ module _ {s cur r : Session} {lent post later : List ℕ} {before next : Next} (
   turn_more =
       record {
         turns = T.turns ++ (o.turn ∷ []);
-        went = subst (Went (T.turns ++ (o.turn ∷ []))) (sym o.decided) (on o.turn (subst (Went T.turns) m T.went));
+        went = subst (Went (T.turns ++ (o.turn ∷ []))) (sym o.decided) (on o.turn T.went);
         session = o.session ∙ ap session_of fed;
         post = o.post ∙ ap (λ (x : Reading World). x.state.post) fed;
       }
 
-  pub turn_less : (left most : ℕ) → 0 < left → length T.turns + left ≡ most → length turn_more.turns + (left - 1) ≡ most
+  pub turn_on : next ≡ Ok More → (U : Turned s lent r (Ok More) later) × (length U.turns ≡ length T.turns + 1)
   unfolding turn_more
-  turn_less left most h e = let n : length (T.turns ++ (o.turn ∷ [])) ≡ length T.turns + 1 = length-append T.turns (o.turn ∷ []) in omega arith
+  turn_on m = subst (λ (n : Next). (U : Turned s lent r n later) × (length U.turns ≡ length T.turns + 1)) m (turn_more, length-append T.turns (o.turn ∷ []))
 
 -- to go on is to say More
-pub says_more : (n : Next) → goes_on n ≡ true → n ≡ More
-says_more More e = refl
-says_more End e = never {t = true} refl (sym e)
-says_more ReadFailed e = never {t = true} refl (sym e)
-says_more WriteFailed e = never {t = true} refl (sym e)
+pub says_more : (n : Next) → goes_on n ≡ true → n ≡ Ok More
+says_more (Ok More) e = refl
+says_more (Ok End) e = never {t = true} refl (sym e)
+says_more (Err why) e = never {t = true} refl (sym e)
 
 -- ---- text in a tray
 
@@ -78,3 +67,10 @@ text_fits x before after k e t =
 
 pub text_front : (x before after : List ℕ) (k : ℕ) → k ≡ length x → after ≡ onto x before → take k after ≡ x
 text_front x before after k e t = rw t (onto_front x before k e)
+
+-- what a feeding, and the last words, say that they wrote
+pub fed_fits : {x : Reading World} {before : List ℕ} {r : Fed} {later after : List ℕ} → Leaves x before r later after → r.used ≤ length after
+fed_fits {x} {before} {r} {later} {after} l = text_fits x.state.text before after r.used (ap (λ (f : Fed). f.used) l.fed) l.text
+
+pub said_fits : {s : Session} {lent before : List ℕ} {r : ℕ} {later after : List ℕ} → LastSaid s lent before r later after → r ≤ length after
+said_fits {s} {lent} {before} {r} {later} {after} l = text_fits (last_words s lent) before after r l.used l.text

@@ -8,9 +8,8 @@ use Rattle.session.specs.declared.Session.{Session}
 use Rattle.session.specs.Session.{fresh_session}
 use Rattle.session.specs.Promises.{Begun}
 use Rattle.session.proofs.laws.Promises.{only_begun}
-use Rattle.rehearse.specs.declared.Next.{Next}
 use Rattle.rehearse.specs.Printed.{printed_on, last_words, LastSaid}
-use Rattle.rehearse.specs.Turns.{given, read_in, Ran, behind_turns, wrote}
+use Rattle.rehearse.specs.Turns.{Next, given, read_in, Ran, behind_turns, wrote}
 use Rattle.rehearse.proofs.laws.Turns.{run_prints}
 use Rattle.rehearse.proofs.laws.Laws.{text_front}
 

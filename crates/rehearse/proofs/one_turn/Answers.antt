@@ -1,32 +1,22 @@
 -- `rehearse::one_turn` meets its contract.
-use Rattle.rehearse.proofs.laws.Laws.{text_fits}
+use Rattle.std.proofs.Common.{rules, ap}
 use Rattle.session.specs.declared.feed.Fed.{Fed}
-use Rattle.session.specs.World.{World}
-use Rattle.session.specs.Session.{session_of, chunk_of}
-use Rattle.lines.specs.Feed.{Reading}
-use Prim.Native.Nat.{ℕ}
-use lib.ListN.{take}
-use mir.Syntax.{w64}
-use mir.Val.{to_z, of_z}
-use mathlib.Core.Path.{ap, ◌∙◌}
+use Rattle.rehearse.proofs.laws.Laws.{fed_fits}
 use Rattle.rehearse.proofs.one_turn.Goals as goal
+
+pub slice_bounds-out-end : goal.slice_bounds-out-end
+slice_bounds-out-end c = fed_fits c.feed_chunk-fed.ensures
 
 pub slice_bounds-write_all-end : goal.slice_bounds-write_all-end
 slice_bounds-write_all-end c =
-    let f = c.feed_chunk-f in text_fits _ _ _ f.result.used (ap (λ (x : Fed). x.used) f.ensures.fed) f.ensures.text
+    let fits = fed_fits c.feed_chunk-fed.ensures in search rules
 
 pub returns : goal.returns
 returns c =
-    let next_of_says = c.next_of.ensures in
-    let f = c.feed_chunk-f.ensures in
-    let count_says = c.count-n.ensures in
-    let a = c.args in
-    let q = c.read_some-got in
-    let tray = q.new.input in
-    let e = ap (λ (n : ℕ). chunk_of a.s a.post.now (take n tray)) count_says.value in
+    let f = rw c.unwrap_or.ensures at c.feed_chunk-fed.ensures in
     record {
-      turn = record { got = to_z w64 (of_z w64 q.result); tray = tray; written = c.is_ok-written.result };
-      decided = next_of_says;
-      session = ap (λ (x : Fed). x.session) f.fed ∙ ap session_of e;
-      post = f.post ∙ ap (λ (r : Reading World). r.state.post) e;
+      turn = record { read = c.ok-read.result; tray = c.read.new.buf; written = c.is_ok-written.result };
+      decided = c.next_of.ensures;
+      session = ap (λ (x : Fed). x.session) f.fed;
+      post = f.post;
     }

@@ -1,23 +1,29 @@
 -- Laws of what specs/Asked.antt defines.
-use Prim.Native.Nat.{ℕ, ◌+◌, ◌<◌}
-use mathlib.Core.Bool.{false}
-use mathlib.Core.List.{List}
+use Rattle.std.specs.Prelude.{Option, None, Some, unwrap_or}
+use Rattle.std.specs.List.{fold, position_or_len}
+use Rattle.std.proofs.Common.{arith, length-take}
+use Rattle.std.proofs.Math.Seq.{take-add}
+use Rattle.std.proofs.lemmas.List.{get_or-drop, get_or-take}
+use Rattle.std.proofs.lemmas.List.Sums.{fails_before_first, passes_at_first, prefix_len-le-length}
+use Prim.Native.Nat.{ℕ, suc, ◌+◌, ◌-◌, ◌<◌, ◌≤◌}
+use mathlib.Core.Bool.{Bool, true, false, not, cond}
+use mathlib.Core.List.{List, [], ◌∷◌, foldl-append}
+use mathlib.Core.Logic.{⊎_elim}
+use borrow.Author.Tests.{eqb-true, ltb-false}
 use mathlib.Core.Path.{◌≡◌, refl, sym, ap, ◌∙◌}
-use lib.Dec.{eqb}
-use lib.ListN.{length, get_or, take}
-use Rattle.laws.proofs.laws.Choice.{pick_true, pick_false}
+use lib.Dec.{eqb, ltb}
+use lib.ListN.{length, get_or, take, drop, length-drop}
+use Rattle.laws.proofs.laws.Choice.{pick_true, pick_false, look}
 use Rattle.laws.proofs.laws.Fold.{over_step}
 use Rattle.lines.specs.Parts.{line_feed}
 use Rattle.lines.specs.Held.{no_line, pushed, order_held}
 use Rattle.lines.specs.Feed.{Reading, line_end, byte_read, all_read}
 use Rattle.lines.specs.declared.LineState.{LineState}
 use Rattle.lines.specs.declared.Typed.{Typed}
+use Rattle.session.specs.Asked.{ReadsOn}
 use Rattle.session.specs.World.{World, act}
 
 -- ---- laws
-
-pub line_as : (r : Reading World) (l : LineState) → r.line ≡ l → r ≡ record { line = l; state = r.state }
-line_as r l e = ap (λ (z : LineState). record { line = z; state = r.state }) e
 
 byte_held : (r : Reading World) (b : ℕ) → eqb b line_feed ≡ false → byte_read act r b ≡ record { line = pushed r.line b; state = r.state }
 unfolding byte_read
@@ -32,16 +38,50 @@ line_acts : (whole : LineState) (w : World) (t : Typed) → t ≡ order_held who
 unfolding line_end
 line_acts whole w t e = rw e
 
-module _ (q : Reading World) (chunk : List ℕ) where
-  -- a byte that is no LF
-  pub held_on : (i : ℕ) (l : LineState) (w : World) → i < length chunk → eqb (get_or chunk i 0) line_feed ≡ false
-      → all_read act q (take i chunk) ≡ record { line = l; state = w }
-      → all_read act q (take (i + 1) chunk) ≡ record { line = pushed l (get_or chunk i 0); state = w }
-  held_on i l w h nf e =
-      sym (over_step (byte_read act) q chunk i h)
-      ∙ byte_held (all_read act q (take i chunk)) (get_or chunk i 0) nf
-      ∙ ap (λ (z : Reading World). record { line = pushed z.line (get_or chunk i 0); state = z.state }) e
+-- bytes of which none is an LF
+held_all : (q : Reading World) (bytes : List ℕ) → ((k : ℕ) → k < length bytes → eqb (get_or bytes k 0) line_feed ≡ false)
+    → all_read act q bytes ≡ record { line = fold pushed q.line bytes; state = q.state }
+held_all q [] h = refl
+held_all q (b ∷ bytes) h =
+    ap (λ (z : Reading World). all_read act z bytes) (byte_held q b (h 0 (omega arith)))
+    ∙ held_all (record { line = pushed q.line b; state = q.state }) bytes (λ k l. h (suc k) (omega arith))
 
+-- the first place that passes, or the end
+pub first_or_end : {A : Type 0} (t : A → Bool) (l : List A) {r : Option ℕ} → r ≡ cond (ltb (position_or_len t l) (length l)) (Some (position_or_len t l)) None
+    → unwrap_or r (length l) ≡ position_or_len t l
+first_or_end t l e = ap (λ r. unwrap_or r (length l)) e ∙ low_or_end (position_or_len t l) (length l) (prefix_len-le-length (λ x. not (t x)) l)
+  where
+    low_or_end : (p n : ℕ) → p ≤ n → unwrap_or (cond (ltb p n) (Some p) None) n ≡ p
+    low_or_end p n m = ⊎_elim (λ h. rw h) (λ h. let k = ltb-false p n h in rw h (omega (arith, k, m))) (look (ltb p n))
+
+-- what comes in a chunk from a place on, up to its first LF or the end
+pub rest_read : (chunk : List ℕ) (from len : ℕ) (line held : LineState) → from ≤ length chunk
+    → len ≡ position_or_len (λ b. eqb b line_feed) (drop from chunk) → held ≡ fold pushed line (take len (drop from chunk))
+    → ReadsOn line chunk from (record { line = held; at = from + len })
+rest_read chunk from len line held low el eh =
+    let rest = drop from chunk in
+    let lf : ℕ → Bool = λ b. eqb b line_feed in
+    let n : length rest ≡ length chunk - from = length-drop _ _ in
+    let m = prefix_len-le-length (λ b. not (lf b)) rest in
+    let none : (k : ℕ) → k < length (take len rest) → lf (get_or (take len rest) k 0) ≡ false =
+    λ k l.
+    let b : k < len = omega (arith, l, length-take len rest) in
+    rw (get_or-take len rest k 0 b) (fails_before_first lf rest k 0 (omega (arith, b, el))) in
+    record {
+      up = omega arith;
+      low = omega (arith, low, n, m, el);
+      ends = λ h.
+          let g : lf (get_or rest len 0) ≡ true = rw el (passes_at_first lf rest 0 (omega (arith, low, n, h, el))) in
+          sym (get_or-drop from chunk len 0) ∙ eqb-true _ _ g;
+      held = λ q e.
+          let w = all_read act q (take from chunk) in
+          ap (all_read act q) (take-add from len chunk)
+          ∙ foldl-append (byte_read act) q (take from chunk) (take len rest)
+          ∙ held_all w (take len rest) none
+          ∙ ap (λ (z : LineState). record { line = z; state = w.state }) (ap (λ (z : LineState). fold pushed z (take len rest)) e ∙ sym eh);
+    }
+
+module _ (q : Reading World) (chunk : List ℕ) where
   -- the LF that ends a line: its order is acted on
   pub line_turn : (from end : ℕ) (whole : LineState) (t : Typed) → end < length chunk → get_or chunk end 0 ≡ line_feed
       → all_read act q (take end chunk) ≡ record { line = whole; state = (all_read act q (take from chunk)).state } → t ≡ order_held whole

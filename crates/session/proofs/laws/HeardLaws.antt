@@ -16,7 +16,8 @@ use Rattle.rehearsal.specs.Promises.{OrderRehearsed}
 use Rattle.rehearsal.proofs.laws.Promises.{turn_is}
 use Rattle.session.specs.declared.Desk.{Desk}
 use Rattle.session.specs.Desk.{fixed_desk}
-use Rattle.session.specs.Heard.{turn_text, obeyed}
+use Rattle.report.specs.Texts.{turn_text}
+use Rattle.session.specs.Heard.{obeyed}
 
 -- an order, from what the rehearsal promised
 pub obeyed_is : (d : Desk) {n : Night} {s : List ℕ} {o : Order} {t : Turn} {after : List ℕ} → OrderRehearsed d.plan n s o t after

@@ -14,7 +14,8 @@ use Rattle.lines.specs.declared.Typed.{Typed}
 use Rattle.lines.specs.declared.Typed.TheVariants.{Given}
 use Rattle.session.specs.declared.Desk.{Desk}
 use Rattle.session.specs.Desk.{districts_here, job_here, fixed_desk}
-use Rattle.session.specs.Heard.{handled, turn_text}
+use Rattle.report.specs.Texts.{turn_text}
+use Rattle.session.specs.Heard.{handled}
 use Rattle.session.proofs.laws.HeardLaws.{refused_leaves}
 use Rattle.session.specs.declared.hear.Heard.{Heard}
 use Rattle.session.specs.Hears.{Plain, Obeys, Hears}

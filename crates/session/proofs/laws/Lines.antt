@@ -11,6 +11,7 @@ use borrow.Author.Tests.{eqb-true, eqb-false}
 use Rattle.laws.proofs.laws.Choice.{never, look}
 use Rattle.house.specs.Pairs.{box_no}
 use Rattle.house.specs.declared.Order.{Order}
+use Rattle.house.specs.declared.Plan.{Plan}
 use Rattle.lines.specs.Feed.{Reading}
 use Rattle.lines.specs.declared.LineState.{LineState}
 use Rattle.lines.specs.declared.Typed.{Typed}
@@ -18,7 +19,8 @@ use Rattle.boxes.specs.Box.{fresh}
 use Rattle.boxes.specs.Sound.{sound}
 use Rattle.boxes.specs.declared.BoxState.{BoxState}
 use Rattle.post.specs.Index.{Indexed}
-use Rattle.post.proofs.laws.Index.{indexed_first, indexed_grown}
+use Rattle.post.specs.declared.Index.{Index}
+use Rattle.post.proofs.laws.Index.{indexed_grown}
 use Rattle.rehearsal.specs.Night.{box_in}
 use Rattle.rehearsal.specs.Alone.{Found}
 use Rattle.rehearsal.specs.declared.Night.{Night}
@@ -41,18 +43,6 @@ pub fed_is : (r : Reading World) (line : LineState) (desk : Desk) (night : Night
     → ◌≡◌ {A = Fed} (record { session = record { night = night; desk = desk; line = line }; used = n }) (fed_of r)
 fed_is r line desk night post n H e = rw (← H.line_is, ← H.desk_is, ← H.night_is, e)
 
--- the line goes on, and nothing else happens
-pub holds_on : (r q : Reading World) (whole line : LineState) (desk : Desk) (night : Night) (post : List ℕ) → r ≡ record { line = whole; state = q.state }
-    → Holds q line desk night post
-    → Holds r whole desk night post
-holds_on r q whole line desk night post e H =
-    record {
-      line_is = ap (λ (z : Reading World). z.line) e;
-      desk_is = ap (λ (z : Reading World). z.state.desk) e ∙ H.desk_is;
-      night_is = ap (λ (z : Reading World). z.state.night) e ∙ H.night_is;
-      post_is = ap (λ (z : Reading World). z.state.post) e ∙ H.post_is;
-    }
-
 -- an order is acted on where a reading stands
 pub acts_on_lem : (r : Reading World) (line : LineState) (desk : Desk) (night : Night) (post : List ℕ) (t : Typed) → Holds r line desk night post
     → act r.state t ≡ saying r.state.text (handled desk night post t)
@@ -71,33 +61,27 @@ holds_after r q a l e =
     }
 
 -- ---- while a chunk is read: which boxes are known to be sound, and an index of the post. A plan that is not fixed may change still
-pub record Sure (desk : Desk) (boxes : List BoxState) (used : ℕ) (post : List ℕ) (known : List Bool) (index : List ℕ) (count : ℕ) : Type 0 where
-  pub indexed : Indexed desk.plan post used index count
-  pub loose : desk.fixed ≡ false → count ≡ 0
+pub record Sure {N : ℕ} (desk : Desk) (boxes : List BoxState) (used : ℕ) (post : List ℕ) (known : List Bool) (index : Index N) : Type 0 where
+  pub indexed : Indexed desk.plan post used index
+  pub loose : desk.fixed ≡ false → (P : Plan) (s : List ℕ) (u : ℕ) → Indexed P s u index
   pub box : (i : ℕ) → get_or known i false ≡ true → (desk.fixed ≡ true) × (sound desk.plan (box_in (record { boxes = boxes; used = used }) i) ≡ true)
 
 same_or_not : (i j : ℕ) → (i ≡ j) ⊎ (i ≢ j)
 same_or_not i j = ⊎_elim (λ t. inl (eqb-true i j t)) (λ t. inr (eqb-false i j t)) (look (eqb i j))
 
 -- a line has been heard: d is the desk after it, k says whether its box is known to be sound
-pub sure_heard : {desk : Desk} {boxes : List BoxState} {used : ℕ} {post : List ℕ} {known : List Bool} {index later : List ℕ} {count : ℕ} {o : Order}
+pub sure_heard : {desk : Desk} {boxes : List BoxState} {used : ℕ} {post : List ℕ} {known : List Bool} {N : ℕ} {index later : Index N} {o : Order}
     (r : Place) (d : Desk) (k : Bool) {x : BoxState}
-    → r.at < length known → x ≡ box_in (record { boxes = boxes; used = used }) r.at → Found desk.plan desk.fixed used o post count r later
-    → (k ≡ true → (d.fixed ≡ true) × (sound d.plan x ≡ true)) → (desk.fixed ≡ true → d ≡ desk) → Sure desk boxes used post known index count
-    → Sure d boxes used post (set known r.at k) later r.count
-sure_heard {desk} {boxes} {used} {post} {known} {index} {later} {count} {o} r d k {x} l ex F sure stays S =
+    → r.at < length known → x ≡ box_in (record { boxes = boxes; used = used }) r.at → Found desk.plan desk.fixed used o post index r later
+    → (k ≡ true → (d.fixed ≡ true) × (sound d.plan x ≡ true)) → (desk.fixed ≡ true → d ≡ desk) → Sure desk boxes used post known index
+    → Sure d boxes used post (set known r.at k) later
+sure_heard {desk} {boxes} {used} {post} {known} {N} {index} {later} {o} r d k {x} l ex F sure stays S =
     record {
-      indexed = ⊎_elim plan_stays plan_new (look desk.fixed);
-      loose = λ q. ⊎_elim (λ t. never (ap (λ (z : Desk). z.fixed) (stays t) ∙ t) q) (λ t. F.stays t ∙ S.loose t) (look desk.fixed);
+      indexed = ⊎_elim (λ t. rw (stays t) F.indexed) (λ t. rw (F.stays t) (S.loose t d.plan post used)) (look desk.fixed);
+      loose = λ q. ⊎_elim (λ t. never (ap (λ (z : Desk). z.fixed) (stays t) ∙ t) q) (λ t. rw (F.stays t) (S.loose t)) (look desk.fixed);
       box = λ i q. ⊎_elim (λ e. asked i e q) (λ e. other i e q) (same_or_not i r.at);
     }
   where
-    plan_stays : desk.fixed ≡ true → Indexed d.plan post used later r.count
-    plan_stays t = rw (stays t) F.indexed
-
-    plan_new : desk.fixed ≡ false → Indexed d.plan post used later r.count
-    plan_new t = indexed_first desk.plan d.plan post post used used later r.count (F.stays t ∙ S.loose t) F.indexed
-
     asked : (i : ℕ) → i ≡ r.at → get_or (set known r.at k) i false ≡ true
         → (d.fixed ≡ true) × (sound d.plan (box_in (record { boxes = boxes; used = used }) i) ≡ true)
     asked i e q =
@@ -113,24 +97,24 @@ sure_heard {desk} {boxes} {used} {post} {known} {index} {later} {count} {o} r d 
         rw (stays f.0) f
 
 -- bytes came behind what is used
-pub sure_grown : {desk : Desk} {boxes : List BoxState} {used : ℕ} {post : List ℕ} {known : List Bool} {index : List ℕ} {count : ℕ} (u : ℕ) (after : List ℕ)
-    → used ≤ u → take used after ≡ take used post → Sure desk boxes used post known index count → Sure desk boxes u after known index count
+pub sure_grown : {desk : Desk} {boxes : List BoxState} {used : ℕ} {post : List ℕ} {known : List Bool} {N : ℕ} {index : Index N} (u : ℕ) (after : List ℕ)
+    → used ≤ u → take used after ≡ take used post → Sure desk boxes used post known index → Sure desk boxes u after known index
 unfolding box_in
-sure_grown {desk} {boxes} {used} {post} {known} {index} {count} u after m g S =
-    record { indexed = indexed_grown desk.plan post after used u m g index count S.indexed; loose = S.loose; box = S.box }
+sure_grown {desk} {boxes} {used} {post} {known} {N} {index} u after m g S =
+    record { indexed = indexed_grown desk.plan post after used u m g index S.indexed; loose = S.loose; box = S.box }
 
 -- a box has stepped, and bytes came behind what is used
-pub sure_stepped : {desk : Desk} {boxes : List BoxState} {used : ℕ} {post : List ℕ} {known : List Bool} {index : List ℕ} {count : ℕ} (at : ℕ) (y : BoxState)
+pub sure_stepped : {desk : Desk} {boxes : List BoxState} {used : ℕ} {post : List ℕ} {known : List Bool} {N : ℕ} {index : Index N} (at : ℕ) (y : BoxState)
     (u : ℕ) (after : List ℕ)
     → at < length boxes
     → (sound desk.plan (box_in (record { boxes = boxes; used = used }) at) ≡ true → sound desk.plan y ≡ true)
     → used ≤ u
     → take used after ≡ take used post
-    → Sure desk boxes used post known index count → Sure desk (set boxes at y) u after known index count
+    → Sure desk boxes used post known index → Sure desk (set boxes at y) u after known index
 unfolding box_in
-sure_stepped {desk} {boxes} {used} {post} {known} {index} {count} at y u after l f m g S =
+sure_stepped {desk} {boxes} {used} {post} {known} {N} {index} at y u after l f m g S =
     record {
-      indexed = indexed_grown desk.plan post after used u m g index count S.indexed;
+      indexed = indexed_grown desk.plan post after used u m g index S.indexed;
       loose = S.loose;
       box = λ i q.
           let b = S.box i q in

@@ -17,11 +17,11 @@ use Rattle.lines.specs.Feed.{Reading}
 use Rattle.lines.specs.declared.LineState.{LineState}
 use Rattle.report.specs.Texts.{answer_most}
 use Rattle.post.specs.Posting.{most_place}
+use Rattle.post.specs.declared.Index.{Index}
 use Rattle.rehearsal.specs.Night.{box_in}
 use Rattle.rehearsal.specs.Alone.{Stands, Found, Starts}
 use Rattle.rehearsal.proofs.laws.Alone.{box_in_lem, found_stands}
 use Rattle.rehearsal.specs.declared.Night.{Night}
-use Rattle.rehearsal.specs.declared.exists.Place.{Place}
 use Rattle.session.specs.declared.Desk.{Desk}
 use Rattle.session.specs.Heard.{After, handled}
 use Rattle.session.specs.Hears.{ask_of}
@@ -29,20 +29,16 @@ use Rattle.session.specs.World.{World, saying}
 use Rattle.session.specs.Asked.{Asks}
 use Rattle.session.specs.Turned.{Turns, boxes_after}
 use Rattle.session.specs.declared.turn.Asked.{Asked}
+use Rattle.session.specs.declared.turn.Line.{Line}
 use Rattle.session.specs.declared.turn.Turned.{Turned}
 use Rattle.session.specs.Session.{within, chunk_of, fed_of}
 use Rattle.session.specs.Promises.{Leaves}
-use Rattle.session.proofs.laws.Lines.{Holds, Sure, fed_is, holds_on, holds_after, acts_on_lem, sure_heard, sure_grown, sure_stepped}
+use Rattle.session.proofs.laws.Lines.{Holds, Sure, fed_is, holds_after, acts_on_lem, sure_heard, sure_grown, sure_stepped}
 use Rattle.session.specs.declared.Session.{Session}
 
--- the index has room for every record that a post can hold, and one more
-abbrev pub index_room : ℕ
-index_room = 8193
-
 -- at the beginning of a line
-pub record Reads (s : Session) (post₀ chunk t₀ : List ℕ) (from : ℕ) (post t : List ℕ) (boxes : List BoxState) (used : ℕ) (desk : Desk) (line : LineState)
-    (known : List Bool)
-    (index : List ℕ) (count text : ℕ) : Type 0 where
+pub record Reads {N : ℕ} (s : Session) (post₀ chunk t₀ : List ℕ) (from : ℕ) (post t : List ℕ) (boxes : List BoxState) (used : ℕ) (desk : Desk)
+    (line : LineState) (known : List Bool) (index : Index N) (text : ℕ) : Type 0 where
   pub low : from ≤ length chunk
   pub room : answer_most * length chunk ≤ length t₀
   pub most : text ≤ answer_most * from
@@ -50,16 +46,15 @@ pub record Reads (s : Session) (post₀ chunk t₀ : List ℕ) (from : ℕ) (pos
   pub post_long : length post ≡ length post₀
   pub boxes_long : length boxes ≡ most_boxes
   pub known_long : length known ≡ most_boxes
-  pub index_long : length index ≡ index_room
   pub holds : Holds (chunk_of s post₀ (take from chunk)) line desk (record { boxes = boxes; used = used }) post
   pub said : text ≡ length (chunk_of s post₀ (take from chunk)).state.text
   pub printed : t ≡ onto (chunk_of s post₀ (take from chunk)).state.text t₀
-  pub sure : Sure desk boxes used post known index count
+  pub sure : Sure desk boxes used post known index
 
 -- at the end of the chunk
 pub ends : {s : Session} {post₀ chunk t₀ : List ℕ} {from : ℕ} {post t : List ℕ} {boxes : List BoxState} {used : ℕ} {desk : Desk} {line : LineState}
     {known : List Bool}
-    {index : List ℕ} {count text : ℕ} → Reads s post₀ chunk t₀ from post t boxes used desk line known index count text → length chunk ≤ from
+    {N : ℕ} {index : Index N} {text : ℕ} → Reads s post₀ chunk t₀ from post t boxes used desk line known index text → length chunk ≤ from
     →
     Leaves
     (chunk_of s post₀ chunk)
@@ -80,8 +75,8 @@ ends {s} {post₀} {chunk} {t₀} {from} {post} {t} {boxes} {used} {desk} {line}
 -- a turn of the loop
 module _ {s : Session} {post₀ chunk t₀ : List ℕ} {from : ℕ} {post t : List ℕ} {boxes : List BoxState} {used : ℕ} {desk : Desk} {line : LineState}
     {known : List Bool}
-    {index : List ℕ} {count text : ℕ} {a : Asked} {later : List ℕ} (R : Reads s post₀ chunk t₀ from post t boxes used desk line known index count text)
-    (A : Asks line desk used chunk from post count index a later) where
+    {N : ℕ} {index : Index N} {text : ℕ} {a : Asked} {later : Index N} (R : Reads s post₀ chunk t₀ from post t boxes used desk line known index text)
+    (A : Asks line desk used chunk from post index a later) where
   abbrev night : Night
   night = record { boxes = boxes; used = used }
 
@@ -92,54 +87,30 @@ module _ {s : Session} {post₀ chunk t₀ : List ℕ} {from : ℕ} {post t : Li
   then_run = chunk_of s post₀ (take a.next chunk)
 
   -- there is room for an answer to what is read now
-  pub room_now : text + answer_most ≤ length t
+  room_now : text + answer_most ≤ length t
   room_now = let b = R.most in let l = R.t_long in let m = R.room in let u = A.up in let d = A.low in omega (arith, b, l, m, u, d)
 
   most_now : (more : ℕ) → more ≤ answer_most → text + more ≤ answer_most * a.next
   most_now more m = let b = R.most in let u = A.up in omega (arith, b, m, u)
 
-  -- a part of a line is held
-  pub waits : a.ended ≡ false → Reads s post₀ chunk t₀ a.next post t boxes used desk a.line known later a.count text
-  waits q =
-      let p = A.part q in
-      let e = p.2 (within s post₀) R.holds.line_is in
-      let m = most_now 0 (omega arith) in
-      record {
-        low = A.low;
-        room = R.room;
-        most = omega (arith, m);
-        t_long = R.t_long;
-        post_long = R.post_long;
-        boxes_long = R.boxes_long;
-        known_long = R.known_long;
-        index_long = ap length p.1 ∙ R.index_long;
-        holds = holds_on then_run run a.line line desk night post e R.holds;
-        said = R.said ∙ ap (λ (r : Reading World). length r.state.text) (sym e);
-        printed = R.printed ∙ ap (λ (r : Reading World). onto r.state.text t₀) (sym e);
-        sure = rw (p.0, p.1) R.sure;
-      }
-
   -- a line has ended
-  module _ (q : a.ended ≡ true) where
-    abbrev place : Place
-    place = record { at = a.at; start = a.start; count = a.count }
+  module _ {l : Line} (q : a.ended ≡ Some l) where
+    F : Found desk.plan desk.fixed used (ask_of l.typed) post index l.place later
+    F = (A.whole l q).0
 
-    F : Found desk.plan desk.fixed used (ask_of a.typed) post count place later
-    F = (A.whole q).0
-
-    pub at_low : a.at < most_boxes
+    pub at_low : l.place.at < most_boxes
     at_low = F.at_low
 
-    box_is : (d : BoxState) → get_or boxes a.at d ≡ box_in night a.at
-    box_is d = box_in_lem night a.at d (rw R.boxes_long at_low)
+    box_is : (d : BoxState) → get_or boxes l.place.at d ≡ box_in night l.place.at
+    box_is d = box_in_lem night l.place.at d (rw R.boxes_long at_low)
 
-    turn : then_run ≡ record { line = a.line; state = saying run.state.text (handled desk night post a.typed) }
+    turn : then_run ≡ record { line = a.line; state = saying run.state.text (handled desk night post l.typed) }
     turn =
-        (A.whole q).1 (within s post₀) R.holds.line_is
-        ∙ ap (λ (w : World). record { line = a.line; state = w }) (acts_on_lem run line desk night post a.typed R.holds)
+        (A.whole l q).1 (within s post₀) R.holds.line_is
+        ∙ ap (λ (w : World). record { line = a.line; state = w }) (acts_on_lem run line desk night post l.typed R.holds)
 
     -- what it leaves, with its text behind the text so far
-    left : (b : After) → handled desk night post a.typed ≡ b → (t₁ : List ℕ) (text₁ : ℕ) → text₁ ≡ length (run.state.text ++ b.text)
+    left : (b : After) → handled desk night post l.typed ≡ b → (t₁ : List ℕ) (text₁ : ℕ) → text₁ ≡ length (run.state.text ++ b.text)
         → t₁ ≡ onto (run.state.text ++ b.text) t₀
         → Holds then_run a.line b.desk b.night b.post × (text₁ ≡ length then_run.state.text) × (t₁ ≡ onto then_run.state.text t₀)
     left b e t₁ text₁ u v =
@@ -155,41 +126,38 @@ module _ {s : Session} {post₀ chunk t₀ : List ℕ} {from : ℕ} {post t : Li
 
     -- its box can be asked
     pub can_turn : (d : BoxState)
-        → (answer_most ≤ length (mid_of text (length t - text) t)) × (get_or known a.at false ≡ true → sound desk.plan (get_or boxes a.at d) ≡ true)
-        × (a.start ≤ most_place) × Starts desk.plan post used (ask_of a.typed) a.start
+        → (answer_most ≤ length (mid_of text (length t - text) t)) × (get_or known l.place.at false ≡ true → sound desk.plan (get_or boxes l.place.at d) ≡ true)
+        × (l.place.start ≤ most_place) × Starts desk.plan post used (ask_of l.typed) l.place.start
     can_turn d =
         let m = room_now in (
           rw (rest_of text t, length-drop) (omega (arith, m)),
-          λ e. ap (sound desk.plan) (box_is d) ∙ (R.sure.box a.at e).1,
+          λ e. ap (sound desk.plan) (box_is d) ∙ (R.sure.box l.place.at e).1,
           F.start_low,
           F.starts,
         )
 
     -- it has been asked
-    module _ (later_long : length later ≡ length index) (d : BoxState) {r : Turned} {post₁ after : List ℕ}
-        (T : Turns desk used (get_or boxes a.at d) post a.typed r post₁ (mid_of text (length t - text) t) after)
+    module _ (d : BoxState) {r : Turned} {post₁ after : List ℕ}
+        (T : Turns desk used (get_or boxes l.place.at d) post l.typed r post₁ (mid_of text (length t - text) t) after)
         (post_now : length post₁ ≡ length post) (said_long : length (put_mid text (length t - text) t after) ≡ length t) where
       abbrev x : BoxState
-      x = get_or boxes a.at d
+      x = get_or boxes l.place.at d
 
       abbrev t₁ : List ℕ
       t₁ = put_mid text (length t - text) t after
 
-      pub text_low : text + r.text ≤ length t
-      text_low = let m = room_now in let b = T.most in omega (arith, m, b)
+      stands : Stands desk.plan used x post (ask_of l.typed) night l.place.at
+      stands = rw (box_is d) (found_stands desk.plan desk.fixed night post (ask_of l.typed) index l.place later F)
 
-      stands : Stands desk.plan used x post (ask_of a.typed) night a.at
-      stands = rw (box_is d) (found_stands desk.plan desk.fixed night post (ask_of a.typed) count place later F)
-
-      sure_now : Sure r.desk boxes used post (set known a.at r.known) later a.count
-      sure_now = sure_heard place r.desk r.known (rw R.known_long at_low) (box_is d) F T.known T.fixed R.sure
+      sure_now : Sure r.desk boxes used post (set known l.place.at r.known) later
+      sure_now = sure_heard l.place r.desk r.known (rw R.known_long at_low) (box_is d) F T.known T.fixed R.sure
 
       -- whatever the boxes are then called
-      turns : (boxes₁ : List BoxState) → boxes₁ ≡ boxes_after r.state a.at boxes → length boxes₁ ≡ most_boxes
-          → Sure r.desk boxes₁ r.used post₁ (set known a.at r.known) later a.count
-          → Reads s post₀ chunk t₀ a.next post₁ t₁ boxes₁ r.used r.desk a.line (set known a.at r.known) later a.count (text + r.text)
-      turns boxes₁ e l S =
-          let D = T.does night a.at stands in
+      turns : (boxes₁ : List BoxState) → boxes₁ ≡ boxes_after r.state l.place.at boxes → length boxes₁ ≡ most_boxes
+          → Sure r.desk boxes₁ r.used post₁ (set known l.place.at r.known) later
+          → Reads s post₀ chunk t₀ a.next post₁ t₁ boxes₁ r.used r.desk a.line (set known l.place.at r.known) later (text + r.text)
+      turns boxes₁ e long S =
+          let D = T.does night l.place.at stands in
           let g = then run.state.text D.0 t₀ t after text r.text R.said R.printed D.2 D.3 in
           let L =
           left
@@ -205,16 +173,15 @@ module _ {s : Session} {post₀ chunk t₀ : List ℕ} {from : ℕ} {post t : Li
             most = most_now r.text T.most;
             t_long = said_long ∙ R.t_long;
             post_long = post_now ∙ R.post_long;
-            boxes_long = l;
-            known_long = length-set known a.at r.known ∙ R.known_long;
-            index_long = later_long ∙ R.index_long;
+            boxes_long = long;
+            known_long = length-set known l.place.at r.known ∙ R.known_long;
             holds = L.0;
             said = L.1;
             printed = L.2;
             sure = S;
           }
 
-      grown : Sure r.desk boxes r.used post₁ (set known a.at r.known) later a.count
+      grown : Sure r.desk boxes r.used post₁ (set known l.place.at r.known) later
       grown = sure_grown r.used post₁ T.more T.front sure_now
 
       -- its box is a new one
@@ -228,22 +195,21 @@ module _ {s : Session} {post₀ chunk t₀ : List ℕ} {from : ℕ} {post t : Li
           a.next
           post₁
           t₁
-          (set boxes a.at y)
+          (set boxes l.place.at y)
           r.used
           r.desk
           a.line
-          (set known a.at r.known)
+          (set known l.place.at r.known)
           later
-          a.count
           (text + r.text)
       steps y f =
           turns
-          (set boxes a.at y)
-          (sym (ap (λ (o : Option BoxState). boxes_after o a.at boxes) f))
-          (length-set boxes a.at y ∙ R.boxes_long)
-          (sure_stepped a.at y r.used post₁ (rw R.boxes_long at_low) (rw (← box_is d) (T.stays y f)) T.more T.front sure_now)
+          (set boxes l.place.at y)
+          (sym (ap (λ (o : Option BoxState). boxes_after o l.place.at boxes) f))
+          (length-set boxes l.place.at y ∙ R.boxes_long)
+          (sure_stepped l.place.at y r.used post₁ (rw R.boxes_long at_low) (rw (← box_is d) (T.stays y f)) T.more T.front sure_now)
 
       -- or all boxes are as they were
       pub passes : r.state ≡ None
-          → Reads s post₀ chunk t₀ a.next post₁ t₁ boxes r.used r.desk a.line (set known a.at r.known) later a.count (text + r.text)
-      passes f = turns boxes (sym (ap (λ (o : Option BoxState). boxes_after o a.at boxes) f)) R.boxes_long grown
+          → Reads s post₀ chunk t₀ a.next post₁ t₁ boxes r.used r.desk a.line (set known l.place.at r.known) later (text + r.text)
+      passes f = turns boxes (sym (ap (λ (o : Option BoxState). boxes_after o l.place.at boxes) f)) R.boxes_long grown

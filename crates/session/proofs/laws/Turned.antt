@@ -23,7 +23,7 @@ use Rattle.rehearsal.specs.Steps.{step_of, Can}
 use Rattle.rehearsal.proofs.laws.Settled.{wrote, turned_does, turned_full, settles_front, settles_more, after_state}
 use Rattle.session.specs.declared.Desk.{Desk}
 use Rattle.session.specs.Desk.{fixed_desk}
-use Rattle.session.specs.Heard.{turn_text}
+use Rattle.report.specs.Texts.{turn_text}
 use Rattle.session.proofs.laws.HeardLaws.{obeyed_is}
 use Rattle.session.proofs.laws.Hears.{some_none, some_is}
 use Rattle.session.specs.Hears.{ask_of, settled_text, Hears}

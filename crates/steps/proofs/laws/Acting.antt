@@ -20,11 +20,10 @@ use Rattle.records.specs.Answers.{done}
 use Rattle.records.specs.declared.answers.Refusal.{Refusal}
 use Rattle.records.specs.declared.answers.Refusal.TheVariants.{NotSound, SmallTray, BrokenRule, OtherBox}
 use Rattle.records.specs.Bytes.{encode_all}
-use Rattle.records.specs.Format.{most_kind}
 use Rattle.records.specs.Rec.{meaning}
 use Rattle.records.specs.Rules.{valid}
 use Rattle.records.specs.declared.Record.{Record}
-use Rattle.records.proofs.laws.Obeys.{Told, rules_say, valid_parts, valid_kind}
+use Rattle.records.proofs.laws.Obeys.{Told, rules_say, valid_parts}
 use Rattle.boxes.specs.Box.{is_recovering, home_in, own_of, last_stamp, on_list, listed_at}
 use Rattle.boxes.specs.Sound.{sound}
 use Rattle.boxes.specs.Out.{Out, guard, records_of, in_order}
@@ -72,12 +71,6 @@ module _ {P : Plan} {x : BoxState} {r : Record} {room : ℕ} (A : Acting P x r r
 
   pub told : Told P (meaning r)
   told = rules_say P (meaning r) (valid_parts P r A.is_valid).obeys
-
-  pub least : 1 ≤ r.kind
-  least = (valid_kind P r A.is_valid).0
-
-  pub most : r.kind ≤ most_kind
-  most = (valid_kind P r A.is_valid).1
 
 -- a job of the plan is one of the table's
 pub job_low : (P : Plan) (j : ℕ) → plan_sound P ≡ true → is_job P j ≡ true → j < 64

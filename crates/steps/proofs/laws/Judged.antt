@@ -8,22 +8,13 @@ use Rattle.laws.specs.Choice.{pick}
 use Rattle.laws.proofs.laws.Choice.{pick_both}
 use Rattle.house.specs.declared.Plan.{Plan}
 use Rattle.records.specs.Answers.{done}
-use Rattle.records.proofs.laws.Kinds.{says_multicast, says_accept, says_accept_ack, says_deliver, says_newleader, says_newleader_ack, says_new_state}
-use Rattle.records.proofs.laws.Kinds.{says_newstate_ack}
-use Rattle.records.specs.Rec.{Rec, multicast, accept, accept_ack, deliver, newleader, newleader_ack, new_state, newstate_ack, unknown, meaning, ballot_no}
-use Rattle.records.specs.Rec.{stamp_no}
-use Rattle.records.specs.declared.Record.{Record}
+use Rattle.records.specs.Rec.{Rec, multicast, accept, accept_ack, deliver, newleader, newleader_ack, new_state, newstate_ack, unknown}
 use Rattle.boxes.specs.Out.{Out, refused}
-use Rattle.boxes.specs.Accept.{when_kept, accept_answer}
-use Rattle.boxes.specs.AcceptAck.{when_marked, accept_ack_answer}
-use Rattle.boxes.specs.NewleaderAck.{when_voted, newleader_ack_answer}
+use Rattle.boxes.specs.Accept.{when_kept}
+use Rattle.boxes.specs.AcceptAck.{when_marked}
+use Rattle.boxes.specs.NewleaderAck.{when_voted}
 use Rattle.boxes.specs.Promise.{was_done}
 use Rattle.boxes.specs.Step.{react}
-use Rattle.boxes.specs.Multicast.{multicast_answer}
-use Rattle.boxes.specs.Deliver.{deliver_answer}
-use Rattle.boxes.specs.Newleader.{newleader_answer}
-use Rattle.boxes.specs.NewState.{new_state_answer}
-use Rattle.boxes.specs.NewstateAck.{newstate_ack_answer}
 use Rattle.boxes.proofs.laws.Answers.{multicast_is, accept_is, accept_ack_is, deliver_is, newleader_is, newleader_ack_is, new_state_is, newstate_ack_is}
 use Rattle.boxes.specs.declared.BoxState.{BoxState}
 use Rattle.steps.specs.Judged.{judged}
@@ -56,37 +47,3 @@ judged_done P x (newleader_ack from to y) e = rw (newleader_ack_is P x from y e)
 judged_done P x (new_state from to y) e = rw (new_state_is P x from y e)
 judged_done P x (newstate_ack from to b) e = rw (newstate_ack_is P x b e)
 judged_done P x unknown e = no_done e
-
--- one law a kind
-module _ (P : Plan) (x : BoxState) (r : Record) where
-  pub judged_1 : r.kind ≡ 1 → judged P x (meaning r) ≡ multicast_answer P x r.job
-  unfolding judged
-  judged_1 e = ap (judged P x) (says_multicast r e)
-
-  pub judged_2 : r.kind ≡ 2 → judged P x (meaning r) ≡ accept_answer P x r.from r.job (record { ballot = ballot_no r 0; stamp = stamp_no r 0 })
-  unfolding judged
-  judged_2 e = ap (judged P x) (says_accept r e)
-
-  pub judged_3 : r.kind ≡ 3 → judged P x (meaning r) ≡ accept_ack_answer P x r.from r.job r.ballots
-  unfolding judged
-  judged_3 e = ap (judged P x) (says_accept_ack r e)
-
-  pub judged_4 : r.kind ≡ 4 → judged P x (meaning r) ≡ deliver_answer P x r.job (record { ballot = ballot_no r 0; local = stamp_no r 0; global = stamp_no r 1 })
-  unfolding judged
-  judged_4 e = ap (judged P x) (says_deliver r e)
-
-  pub judged_5 : r.kind ≡ 5 → judged P x (meaning r) ≡ newleader_answer x (ballot_no r 0)
-  unfolding judged
-  judged_5 e = ap (judged P x) (says_newleader r e)
-
-  pub judged_6 : r.kind ≡ 6 → judged P x (meaning r) ≡ newleader_ack_answer x r.from (ballot_no r 0)
-  unfolding judged
-  judged_6 e = ap (judged P x) (says_newleader_ack r e)
-
-  pub judged_7 : r.kind ≡ 7 → judged P x (meaning r) ≡ new_state_answer x (ballot_no r 0)
-  unfolding judged
-  judged_7 e = ap (judged P x) (says_new_state r e)
-
-  pub judged_8 : r.kind ≡ 8 → judged P x (meaning r) ≡ newstate_ack_answer x (ballot_no r 0)
-  unfolding judged
-  judged_8 e = ap (judged P x) (says_newstate_ack r e)

@@ -1,6 +1,6 @@
--- The measure of `vectors::all_lines`: a line ends at its own start or behind it.
-use Rattle.std.proofs.Common.{length, ◌-◌}
+-- The measure of `vectors::all_lines`: each turn leaves less of the text.
+use Rattle.std.proofs.Common.{length}
 use Rattle.vectors.proofs.all_lines.Given as goal
 
-abbrev pub decreases-loop-at : goal.decreases-loop-at
-decreases-loop-at g l = length l.s - l.at
+abbrev pub decreases-loop-rest : goal.decreases-loop-rest
+decreases-loop-rest g l = length l.rest

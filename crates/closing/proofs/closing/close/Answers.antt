@@ -21,9 +21,6 @@ returns-then-not-plan_sound c =
     let v : [] ≡ night_report a.plan a.night = sym (pick_false (sound_report a.plan a.night) _ s) in
     record { used = ap length v; text = sym (onto_nil a.t.now) ∙ ap (λ (l : List ℕ). onto l a.t.now) v }
 
-pub put_report-requires : goal.put_report-requires
-put_report-requires c = search (rules, tests)
-
 pub returns : goal.returns
 unfolding night_report
 returns c =

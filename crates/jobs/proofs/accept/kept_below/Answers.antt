@@ -1,35 +1,16 @@
 -- `jobs::accept::kept_below` meets its contract.
-use Prim.Native.Nat.{ℕ}
-use mathlib.Core.Path.{◌≡◌, refl, ap, ◌∙◌}
-use native.Mathlib.Omega.{arith}
-use mathlib.Core.Bool.{not, ◌||◌}
-use Rattle.laws.specs.Fold.{all_below}
-use Rattle.laws.proofs.laws.Fold.{all_step}
-use Rattle.house.specs.Pairs.{district, is_no_ballot}
+use Rattle.std.proofs.Common.{rules, ℕ, Bool, not, ◌||◌}
+use borrow.Author.Tests.{tests}
+use Rattle.laws.proofs.laws.Ranges.{all_in_range}
+use Rattle.house.specs.Pairs.{district, is_no_ballot, same_ballot}
 use Rattle.house.specs.Plan.{names}
 use Rattle.boxes.specs.Box.{kept_ballot}
 use Rattle.boxes.specs.Accept.{kept_below}
-use borrow.Author.Rules.{rules}
 use Rattle.jobs.proofs.accept.kept_below.Goals as goal
 
-pub loop-d-init : goal.loop-d-init
-unfolding kept_below all_below
-loop-d-init c = (search rules, refl)
-
-pub loop-d-preserved : goal.loop-d-preserved
-unfolding kept_below
-loop-d-preserved c =
-    let is_no_ballot_says = c.is_no_ballot.ensures in
-    let named_says = c.named.ensures in
-    let kept_ballot_says = c.kept_ballot-b.ensures in
-    let a = c.args in
-    let l = c.loop-d in (
-      omega arith,
-      rw (l.invariant.1, is_no_ballot_says, named_says, kept_ballot_says)
-          (all_step (λ (e : ℕ). not (names a.plan a.job (district e)) || not (is_no_ballot (kept_ballot a.x a.job (district e)))) l.d),
-    )
-
 pub returns : goal.returns
+unfolding kept_below is_no_ballot same_ballot
 returns c =
-    let a = c.args in let l = c.loop-d in let e : l.d ≡ a.n = omega arith in
-    l.invariant.1 ∙ ap (kept_below a.plan a.x a.job) e
+    let a = c.args in
+    let t : ℕ → Bool = λ d. not (names a.plan a.job (district d)) || not (is_no_ballot (kept_ballot a.x a.job (district d))) in
+    all_in_range t a.n c.all.ensures.ran (cc) (λ x b q k. search (rules, tests))

@@ -1,23 +1,19 @@
 -- `leaders::merge::merged_table` meets its contract.
-use Rattle.std.specs.Prelude.{◌≡◌, [], ◌∷◌, replicate, refl}
-use Rattle.std.proofs.Common.{rules, arith, ap, ◌∙◌}
+use Rattle.std.proofs.Common.{rules, sym, ◌∙◌, [], ◌∷◌}
+use borrow.Author.Tests.{tests}
+use lib.Dec.{ltb}
+use Rattle.laws.specs.Choice.{pick}
+use Rattle.laws.proofs.laws.Ranges.{made_from_fn}
 use Rattle.house.specs.Limits.{most_jobs}
-use Rattle.leaders.proofs.laws.Votes.{table_step}
-use Rattle.boxes.specs.Merge.{merged_table, vote_row}
+use Rattle.house.specs.Pairs.{no_row}
+use Rattle.boxes.specs.Merge.{merged_row}
+use Rattle.leaders.proofs.laws.Votes.{table_is}
 use Rattle.leaders.proofs.merge.merged_table.Goals as goal
 
-pub loop-j-init : goal.loop-j-init
-unfolding merged_table
-loop-j-init c = (search rules, ap (replicate most_jobs) c.no_row-table.ensures)
-
-pub loop-j-preserved : goal.loop-j-preserved
-unfolding vote_row
-loop-j-preserved c =
-    let l = c.loop-j in
-    (omega arith, rw (l.invariant.1, c.merged_row.ensures c.args.low c.args.high l.j refl refl refl refl) (table_step (c.args.low ∷ c.args.high ∷ []) l.j))
-
 pub returns : goal.returns
+unfolding pick
 returns c =
-    let l = c.loop-j in
-    let e : l.j ≡ c.args.jobs = omega arith in
-    l.invariant.1 ∙ ap (merged_table (c.args.low ∷ c.args.high ∷ [])) e
+    let a = c.args in
+    let l = a.low.now ∷ a.high.now ∷ [] in
+    made_from_fn (λ k. pick (ltb k a.jobs) (merged_row l k) no_row) no_row (λ x b q k. search (rules, tests)) c.from_fn.result most_jobs c.from_fn.ensures.items
+    ∙ sym (table_is l a.jobs)

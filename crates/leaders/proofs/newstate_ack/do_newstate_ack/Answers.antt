@@ -1,27 +1,18 @@
 -- `leaders::newstate_ack::do_newstate_ack` meets its contract.
-use Rattle.boxes.proofs.laws.Answers.{newstate_ack_is}
+use Rattle.std.proofs.Common.{rules, ◌≡◌, ◌∙◌}
 use Rattle.boxes.specs.Ready.{hand_out}
-use mathlib.Core.Path.{◌≡◌, ◌∙◌}
+use Rattle.boxes.specs.NewstateAck.{on_newstate_ack}
 use Rattle.leaders.proofs.newstate_ack.do_newstate_ack.Goals as goal
 
 pub hand_out-h-requires : goal.hand_out-h-requires
-hand_out-h-requires c =
-    let a = c.args in
-    let p = c.requires in
-    let y = c.lead-y in
-    let v = newstate_ack_is a.plan a.x a.b p.2 in
-    (p.0, (y.result.volatile, rw y.ensures (rw v at p.1)))
+unfolding on_newstate_ack
+hand_out-h-requires c = (c.requires.0, (c.lead-y.result.volatile, search rules))
 
 pub returns : goal.returns
+unfolding on_newstate_ack
 returns c =
-    let done_says = c.done.ensures in
-    let put_sent_result = c.put_sent-z.result in
-    let put_sent_says = c.put_sent-z.ensures in
-    let hand_out_says = c.hand_out-h.ensures in
     let a = c.args in
-    let asked = c.requires in
-    let y = c.lead-y in
-    let v = newstate_ack_is a.plan a.x a.b asked.2 in
-    let q = hand_out_says y.result.volatile in
-    let z : put_sent_result ≡ (hand_out a.plan y.result).box = put_sent_says ∙ q.0 in
-    (done_says ∙ rw (v, z, q.1, q.2, y.ensures), rw (v, ← y.ensures) q.3)
+    let y = c.lead-y.result in
+    let q = c.hand_out-h.ensures y.volatile in
+    let z : c.put_sent-z.result ≡ (hand_out a.plan y).box = c.put_sent-z.ensures ∙ q.0 in
+    search rules

@@ -17,7 +17,7 @@ returns-then-not-known_plan c =
     judges_no _ (plan_off a.plan a.used a.x a.post.now a.order off)
 
 pub is_there-requires : goal.is_there-requires
-is_there-requires c = (c.requires.2, c.requires.3)
+is_there-requires c = (c.requires.1, c.requires.2)
 
 pub returns-then-not-is_there : goal.returns-then-not-is_there
 returns-then-not-is_there c =
@@ -29,7 +29,7 @@ returns-then-not-is_there c =
 pub judge_stand-requires : goal.judge_stand-requires
 judge_stand-requires c =
     let plan : plan_sound c.args.plan ≡ true = search rules in
-    (plan, c.requires.0, c.requires.1)
+    (plan, c.requires.0)
 
 pub overflow_cast-j : goal.overflow_cast-j
 overflow_cast-j c =
@@ -42,12 +42,12 @@ overflow_cast-j c =
 pub judge_retry-requires : goal.judge_retry-requires
 judge_retry-requires c =
     let plan : plan_sound c.args.plan ≡ true = search rules in
-    (plan, c.requires.0, c.requires.1)
+    (plan, c.requires.0)
 
 pub judge_carry-requires : goal.judge_carry-requires
 judge_carry-requires c =
     let plan : plan_sound c.args.plan ≡ true = search rules in
-    (plan, c.requires.0, c.requires.1, c.requires.2)
+    (plan, c.requires.0, c.requires.1)
 
 pub returns-in-Post : goal.returns-in-Post
 returns-in-Post c =
@@ -73,10 +73,10 @@ returns-in-Cut c =
     let a = c.args in
     let plan : plan_sound a.plan ≡ true = search rules in
     let there : exists a.plan (here a.used) a.post.now a.order ≡ true = search rules in
-    judges_as c.in-Cut.is (c.judge_cut.ensures a.plan a.used _ a.x a.post.now plan c.requires.0 c.requires.1 (rw c.in-Cut.is at there))
+    judges_as c.in-Cut.is (c.judge_cut.ensures a.plan a.used _ a.x a.post.now plan c.requires.0 (search rules) (rw c.in-Cut.is at there))
 
 pub returns-in-Carry : goal.returns-in-Carry
 returns-in-Carry c =
     let a = c.args in
     let there : exists a.plan (here a.used) a.post.now a.order ≡ true = search rules in
-    judges_as c.in-Carry.is (c.judge_carry.ensures a.used _ (c.requires.3 _ c.in-Carry.is) (rw c.in-Carry.is at there))
+    judges_as c.in-Carry.is (c.judge_carry.ensures a.used _ (c.requires.2 _ c.in-Carry.is) (rw c.in-Carry.is at there))

@@ -32,5 +32,5 @@ returns c used k es h =
     let w =
     carry_bytes c.args.plan used c.args.post.now k c.args.start f.result e.result kind.result n.result es
     kind.ensures n.ensures.0 f.ensures.0 e.ensures.0 in
-    carry_judges c.args.plan used c.args.x c.args.post.now k _ c.requires.0 h c.requires.2
+    carry_judges c.args.plan used c.args.x c.args.post.now k _ c.requires.0 h (search rules)
     (subst (λ (l : List ℕ). Judging c.args.plan c.args.x l c.judge_bytes.result) w c.judge_bytes.ensures)

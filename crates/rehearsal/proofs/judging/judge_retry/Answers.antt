@@ -24,7 +24,7 @@ returns-in_err-decide_retry c used p s h =
     let f : c.from_residual.result ≡ Err c.in_err-decide_retry.field-0.0 = search rules in
     rw f
     (answers no_record c.requires.0 h (Err c.in_err-decide_retry.field-0.0) (retry_acts P used x s on p j ∙ retry_is P x j e)
-    (λ q. retry_low P used s p j c.requires.0 h) refl (retry_keeps P used x s on c.requires.2 p j))
+    (λ q. retry_low P used s p j c.requires.0 h) refl (retry_keeps P used x s on (search rules) p j))
 
 pub returns : goal.returns
 returns c used p s h =
@@ -33,4 +33,4 @@ returns c used p s h =
     let e : retry_answer P x j ≡ done = search rules in
     rw c.no_record.ensures
     (answers no_record c.requires.0 h done (retry_acts P used x s on p j ∙ retry_is P x j e)
-    (λ q. retry_low P used s p j c.requires.0 h) refl (retry_keeps P used x s on c.requires.2 p j))
+    (λ q. retry_low P used s p j c.requires.0 h) refl (retry_keeps P used x s on (search rules) p j))

@@ -25,7 +25,7 @@ returns-in_err-decide_stand c used p s h =
     let f : c.from_residual.result ≡ Err c.in_err-decide_stand.field-0.0 = search rules in
     rw f
     (answers no_record c.requires.0 h (Err c.in_err-decide_stand.field-0.0) (stand_acts P used x s on p ∙ stand_is P x e) (λ q. stand_room x (e ∙ q)) refl
-    (stand_keeps P used x s on c.requires.2 p))
+    (stand_keeps P used x s on (search rules) p))
 
 pub returns : goal.returns
 returns c used p s h =
@@ -34,4 +34,4 @@ returns c used p s h =
     let e : stand_answer x ≡ done = search rules in
     rw c.no_record.ensures
     (answers no_record c.requires.0 h done (stand_acts P used x s on p ∙ stand_is P x e) (λ q. stand_room x e) refl
-    (stand_keeps P used x s on c.requires.2 p))
+    (stand_keeps P used x s on (search rules) p))

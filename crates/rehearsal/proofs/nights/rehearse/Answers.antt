@@ -1,7 +1,5 @@
 -- `rehearsal::nights::rehearse` meets its contract.
-use Rattle.std.proofs.Common.{arith, refl, ◌∙◌, [], ◌∷◌}
-use Rattle.laws.proofs.laws.Choice.{never}
-use Rattle.post.proofs.laws.Index.{indexed_none}
+use Rattle.std.proofs.Common.{arith, ◌∙◌}
 use Rattle.rehearsal.specs.Night.{box_in}
 use Rattle.rehearsal.specs.Steps.{Judges}
 use Rattle.rehearsal.proofs.laws.Alone.{alone_is, found_stands}
@@ -9,17 +7,14 @@ use Rattle.rehearsal.proofs.laws.Settled.{rehearsed_no}
 use Rattle.rehearsal.proofs.nights.rehearse.Goals as goal
 
 pub find-place-requires : goal.find-place-requires
-find-place-requires c = let a = c.args in indexed_none a.plan a.post.now a.night.used (0 ∷ []) (omega arith) refl
+find-place-requires c = let a = c.args in (omega arith, c.new-index.ensures (omega arith) a.plan a.post.now a.night.used)
 
 pub box_at-x-requires : goal.box_at-x-requires
 box_at-x-requires c = c.find-place.ensures.at_low
 
-pub known_sound-known-requires : goal.known_sound-known-requires
-known_sound-known-requires c = λ h. never h refl
-
 pub judge-requires : goal.judge-requires
 judge-requires c =
-    let k = c.known_sound-known in let F = c.find-place.ensures in (k.ensures.0, k.ensures.1, F.start_low, F.starts)
+    let F = c.find-place.ensures in (c.is_sound-known.ensures, F.start_low, F.starts)
 
 pub carry_out-requires : goal.carry_out-requires
 carry_out-requires c =

@@ -14,6 +14,7 @@ unfolding none_proposed
 returns c =
     let a = c.args in
     let t : Row → Bool = λ r. not (nat_eq r.phase 1) in
-    all_from_yields_List t _ _ c.all.result c.all.ensures.ran (YieldsList-from_take a.n (YieldsList-from_slice a.table (cc)) (cc))
+    all_from_yields_List t _ _ c.all.result c.all.ensures.ran
+    (YieldsList-from_take a.n (YieldsList-from_slice a.table (cc)) (cc))
     (λ x b q k. search (rules, tests))
     ∙ all_take t a.table no_row refl a.n

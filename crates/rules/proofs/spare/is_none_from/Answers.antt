@@ -11,6 +11,7 @@ pub returns : goal.returns
 returns g c =
     let part = g.T.Part in
     let a = c.args in
-    all_from_yields_List part.is_nothing _ _ c.all.result c.all.ensures.ran (YieldsList-from_skip a.n (YieldsList-from_slice a.parts.now (cc)) (cc))
+    all_from_yields_List part.is_nothing _ _ c.all.result c.all.ensures.ran
+    (YieldsList-from_skip a.n (YieldsList-from_slice a.parts.now (cc)) (cc))
     (λ x b q k. search (rules, tests))
     ∙ all_behind part.is_nothing a.parts.now part.nothing a.n

@@ -21,9 +21,6 @@ sending : (P : Plan) (s : plan_sound P ≡ true) (own : BoxNo) (b : Ballot) (row
 unfolding delivers_from fresh
 sending P s own b row j = delivers_sent P s own (fresh own) j (record { ballot = b; local = row.local; global = row.global })
 
-pub home_boxes-requires : goal.home_boxes-requires
-home_boxes-requires c = c.requires.0
-
 pub send-requires : goal.send-requires
 send-requires c =
     let meant_says = c.home_boxes.ensures in let record_says = c.deliver_record-r.ensures in

@@ -9,7 +9,7 @@ use Rattle.boxes.specs.Ready.{open_above, is_open}
 use Rattle.sending.proofs.ready.open_above.Goals as goal
 
 pub returns : goal.returns
-unfolding open_above is_open row_at
+unfolding open_above is_open row_at stamp_lt
 returns c P x en et =
     let a = c.args in
     let above : Row → Bool = λ r. not (r.phase == 1 || r.phase == 2) || stamp_lt a.s r.local in

@@ -20,7 +20,6 @@ invariant-loop-from l =
     l.line
     l.known
     l.index
-    l.count
     l.text
 
 abbrev pub decreases-loop-from : goal.decreases-loop-from

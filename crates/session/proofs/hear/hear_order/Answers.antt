@@ -4,12 +4,6 @@ use Rattle.rehearsal.specs.Steps.{Goes}
 use Rattle.session.proofs.laws.Hears.{some_none, some_is}
 use Rattle.session.proofs.hear.hear_order.Goals as goal
 
-pub known_sound-known-requires : goal.known_sound-known-requires
-known_sound-known-requires c = c.requires.1
-
-pub judge-requires : goal.judge-requires
-judge-requires c = let p = c.requires in let k = c.known_sound-known in (k.ensures.0, k.ensures.1, p.2, p.3)
-
 pub returns-in-Ok : goal.returns-in-Ok
 returns-in-Ok c =
     let a = c.args in
@@ -18,17 +12,17 @@ returns-in-Ok c =
       go = λ r q. (subst (Goes a.desk.plan a.used a.x a.post.now a.order) (some_is q) (c.judge.ensures.go _ c.in-Ok.is), refl, refl);
       fixed = c.fix-fixed.ensures;
       most = search rules;
-      known = c.known_sound-known.ensures.0;
+      known = search rules;
     }
 
 pub returns-in-Err : goal.returns-in-Err
 returns-in-Err c =
-    let l = c.say_no-text.ensures in
+    let l = c.answer_line-text.ensures in
     record {
       refuse =
           λ q. (_, c.judge.ensures.refuse _ c.in-Err.is, record { desk_is = c.fix-fixed.ensures; long = l.1; most = l.0; text_is = l.2 });
       go = λ r q. some_none q refl;
       fixed = c.fix-fixed.ensures;
       most = l.0;
-      known = c.known_sound-known.ensures.0;
+      known = search rules;
     }

@@ -1,116 +1,91 @@
--- `steps::acting::act` meets its contract: each kind's step.
-use Rattle.steps.proofs.laws.Kinds.{react_1, react_2, react_3, react_4, react_5, react_6, react_7, react_8, above_four, last_kind}
-use Rattle.steps.proofs.laws.Judged.{judged_1, judged_2, judged_3, judged_4, judged_5, judged_6, judged_7, judged_8}
-use Rattle.steps.proofs.laws.Acting.{box, told, least, most, job_low, home_place, room_listed}
-use Rattle.records.proofs.laws.Bytes.{encode_none}
-use Rattle.boxes.proofs.laws.Answers.{deliver_is}
-use Rattle.records.specs.Rec.{ballot_no, stamp_no}
-use Rattle.records.specs.declared.Handout.{Handout}
-use Rattle.records.proofs.laws.Kinds.{says_multicast, says_accept, says_accept_ack, says_deliver}
+-- What each kind's step asks for: the record is told so and its step's records fit, in the words of what it says.
+use Rattle.std.proofs.Common.{rules, ◌≡◌, ◌∙◌, sym, ap}
 use Rattle.laws.proofs.laws.Tray.{onto_nil}
-use mathlib.Core.Path.{sym}
+use Rattle.records.specs.Rec.{meaning, multicast, accept, accept_ack, deliver, newleader, newleader_ack, new_state, newstate_ack}
+use Rattle.records.proofs.laws.Bytes.{encode_none}
+use Rattle.records.proofs.laws.Obeys.{valid_kind}
+use Rattle.boxes.specs.Out.{result_of}
+use Rattle.boxes.specs.Step.{react}
+use Rattle.boxes.proofs.laws.Answers.{deliver_is}
+use Rattle.steps.specs.Judged.{judged}
+use Rattle.steps.specs.Said.{says}
+use Rattle.steps.proofs.laws.Acting.{box, told, job_low, home_place, room_listed}
 use Rattle.steps.proofs.acting.act.Goals as goal
 
+pub said_by-requires : goal.said_by-requires
+said_by-requires c = valid_kind c.args.plan c.args.r c.requires.0.is_valid
+
 pub do_multicast-requires : goal.do_multicast-requires
+unfolding says judged react
 do_multicast-requires c =
-    let a = c.args in let A = c.requires.0 in let e = c.in-1.is in
-    let O = rw (says_multicast a.r e) at (told A) in let j = job_low a.plan a.r.job (box A).plan O.job in
-    ((box A).plan, j, (box A).clock, rw (react_1 a.plan a.x a.r e) at A.fits, rw (judged_1 a.plan a.x a.r e) at c.requires.1)
+    let a = c.args in let A = c.requires.0 in let k = c.in-Multicast in
+    let e : meaning a.r ≡ multicast a.r.from a.r.to k.job = search rules in
+    let O = rw e at (told A) in
+    ((box A).plan, job_low a.plan k.job (box A).plan O.job, (box A).clock, rw e at A.fits, rw e at c.requires.1)
 
 pub do_accept-requires : goal.do_accept-requires
+unfolding says judged react
 do_accept-requires c =
-    let a = c.args in let A = c.requires.0 in let e = c.in-2.is in
-    let O = rw (says_accept a.r e) at (told A) in let j = job_low a.plan a.r.job (box A).plan O.job in (
+    let a = c.args in let A = c.requires.0 in let k = c.in-Accept in
+    let e : meaning a.r ≡ accept a.r.from a.r.to k.job k.y = search rules in
+    let O = rw e at (told A) in (
       (box A).plan,
-      j,
+      job_low a.plan k.job (box A).plan O.job,
       home_place a.plan a.r.from (box A).plan O.sender,
-      rw (react_2 a.plan a.x a.r e) at A.fits,
-      rw (judged_2 a.plan a.x a.r e) at c.requires.1,
+      rw e at A.fits,
+      rw e at c.requires.1,
     )
 
 pub do_accept_ack-requires : goal.do_accept_ack-requires
+unfolding says judged react
 do_accept_ack-requires c =
-    let a = c.args in let A = c.requires.0 in let e = c.in-3.is in
-    let O = rw (says_accept_ack a.r e) at (told A) in let j = job_low a.plan a.r.job (box A).plan O.job in
-    ((box A).plan, j, rw (react_3 a.plan a.x a.r e) at A.fits, rw (judged_3 a.plan a.x a.r e) at c.requires.1)
+    let a = c.args in let A = c.requires.0 in let k = c.in-AcceptAck in
+    let e : meaning a.r ≡ accept_ack a.r.from a.r.to k.job k.ballots = search rules in
+    let O = rw e at (told A) in
+    ((box A).plan, job_low a.plan k.job (box A).plan O.job, rw e at A.fits, rw e at c.requires.1)
 
 pub do_deliver-requires : goal.do_deliver-requires
+unfolding says judged react
 do_deliver-requires c =
-    let a = c.args in let A = c.requires.0 in let e = c.in-4.is in
-    let O = rw (says_deliver a.r e) at (told A) in let j = job_low a.plan a.r.job (box A).plan O.job in
-    let d = rw (judged_4 a.plan a.x a.r e) at c.requires.1 in
-    let y : Handout = record { ballot = ballot_no a.r 0; local = stamp_no a.r 0; global = stamp_no a.r 1 } in
-    (j, room_listed a.plan a.x a.r.job y (box A) d, d)
+    let a = c.args in let A = c.requires.0 in let k = c.in-Deliver in
+    let e : meaning a.r ≡ deliver a.r.from a.r.to k.job k.y = search rules in
+    let O = rw e at (told A) in
+    let d = rw e at c.requires.1 in
+    (job_low a.plan k.job (box A).plan O.job, room_listed a.plan a.x k.job k.y (box A) d, d)
 
 pub do_newleader-requires : goal.do_newleader-requires
+unfolding says judged react
 do_newleader-requires c =
-    let a = c.args in let A = c.requires.0 in let e = c.in-5.is in
-    ((box A).plan, rw (react_5 a.plan a.x a.r e) at A.fits, rw (judged_5 a.plan a.x a.r e) at c.requires.1)
+    let a = c.args in let A = c.requires.0 in let k = c.in-Newleader in
+    let e : meaning a.r ≡ newleader a.r.from a.r.to k.b = search rules in
+    ((box A).plan, rw e at A.fits, rw e at c.requires.1)
 
 pub do_newleader_ack-requires : goal.do_newleader_ack-requires
+unfolding says judged react
 do_newleader_ack-requires c =
-    let a = c.args in let A = c.requires.0 in let e = c.in-6.is in
-    ((box A).plan, rw (react_6 a.plan a.x a.r e) at A.fits, rw (judged_6 a.plan a.x a.r e) at c.requires.1)
+    let a = c.args in let A = c.requires.0 in let k = c.in-NewleaderAck in
+    let e : meaning a.r ≡ newleader_ack a.r.from a.r.to k.y = search rules in
+    ((box A).plan, rw e at A.fits, rw e at c.requires.1)
 
 pub do_new_state-requires : goal.do_new_state-requires
+unfolding says judged react
 do_new_state-requires c =
-    let a = c.args in let A = c.requires.0 in let e = c.in-7.is in
-    ((box A).plan, rw (react_7 a.plan a.x a.r e) at A.fits, rw (judged_7 a.plan a.x a.r e) at c.requires.1)
+    let a = c.args in let A = c.requires.0 in let k = c.in-NewState in
+    let e : meaning a.r ≡ new_state a.r.from a.r.to k.y = search rules in
+    ((box A).plan, rw e at A.fits, rw e at c.requires.1)
 
 pub do_newstate_ack-requires : goal.do_newstate_ack-requires
+unfolding says judged react
 do_newstate_ack-requires c =
-    let a = c.args in let A = c.requires.0 in let q = c.in_default.in_default-own.rest in
-    let f = above_four a.r.kind (least A) q.0.0.0.0.0.0.1 q.0.0.0.0.0.1 q.0.0.0.0.1 q.0.0.0.1 in
-    let e = last_kind a.r.kind f (most A) q.0.0.1 q.0.1 q.1 in
-    ((box A).plan, rw (react_8 a.plan a.x a.r e) at A.fits, rw (judged_8 a.plan a.x a.r e) at c.requires.1)
+    let a = c.args in let A = c.requires.0 in let k = c.in-NewstateAck in
+    let e : meaning a.r ≡ newstate_ack a.r.from a.r.to k.b = search rules in
+    ((box A).plan, rw e at A.fits, rw e at c.requires.1)
 
-pub returns-in-1 : goal.returns-in-1
-returns-in-1 c =
-    let a = c.args in
-    let e = react_1 a.plan a.x a.r c.in-1.is in
-    let q = c.do_multicast in (rw e q.ensures.0, rw e q.ensures.1)
-
-pub returns-in-2 : goal.returns-in-2
-returns-in-2 c =
-    let a = c.args in
-    let e = react_2 a.plan a.x a.r c.in-2.is in
-    let q = c.do_accept in (rw e q.ensures.0, rw e q.ensures.1)
-
-pub returns-in-3 : goal.returns-in-3
-returns-in-3 c =
-    let a = c.args in
-    let e = react_3 a.plan a.x a.r c.in-3.is in
-    let q = c.do_accept_ack in (rw e q.ensures.0, rw e q.ensures.1)
-
-pub returns-in-4 : goal.returns-in-4
-returns-in-4 c =
-    let do_deliver_says = c.do_deliver.ensures in
-    let a = c.args in let k = c.in-4.is in
-    let e = react_4 a.plan a.x a.r k in let d = rw (judged_4 a.plan a.x a.r k) at c.requires.1 in
-    let v = deliver_is a.plan a.x a.r.job (record { ballot = ballot_no a.r 0; local = stamp_no a.r 0; global = stamp_no a.r 1 }) d in
-    (rw e do_deliver_says, rw (e, v, encode_none a.plan) (sym (onto_nil a.tray.now)))
-
-pub returns-in-5 : goal.returns-in-5
-returns-in-5 c =
-    let a = c.args in
-    let e = react_5 a.plan a.x a.r c.in-5.is in
-    let q = c.do_newleader in (rw e q.ensures.0, rw e q.ensures.1)
-
-pub returns-in-6 : goal.returns-in-6
-returns-in-6 c =
-    let a = c.args in
-    let e = react_6 a.plan a.x a.r c.in-6.is in
-    let q = c.do_newleader_ack in (rw e q.ensures.0, rw e q.ensures.1)
-
-pub returns-in-7 : goal.returns-in-7
-returns-in-7 c =
-    let a = c.args in
-    let e = react_7 a.plan a.x a.r c.in-7.is in
-    let q = c.do_new_state in (rw e q.ensures.0, rw e q.ensures.1)
-
-pub returns-in_default : goal.returns-in_default
-returns-in_default c =
-    let a = c.args in let A = c.requires.0 in let q = c.in_default.in_default-own.rest in
-    let f = above_four a.r.kind (least A) q.0.0.0.0.0.0.1 q.0.0.0.0.0.1 q.0.0.0.0.1 q.0.0.0.1 in
-    let k = last_kind a.r.kind f (most A) q.0.0.1 q.0.1 q.1 in
-    let e = react_8 a.plan a.x a.r k in let w = c.do_newstate_ack in (rw e w.ensures.0, rw e w.ensures.1)
+pub returns-in-Deliver : goal.returns-in-Deliver
+unfolding says judged react
+returns-in-Deliver c =
+    let a = c.args in let k = c.in-Deliver in
+    let e : meaning a.r ≡ deliver a.r.from a.r.to k.job k.y = search rules in
+    let s = ap (react a.plan a.x) e in
+    let v = s ∙ deliver_is a.plan a.x k.job k.y (rw e at c.requires.1) in
+    (c.do_deliver.ensures ∙ ap (result_of a.plan a.x) (sym s), rw (v, encode_none a.plan) (sym (onto_nil a.tray.now)))
