@@ -76,6 +76,7 @@ pub struct BoxState {
 }
 
 // done: the new box, the bytes and records written, and the job delivered; refused: the same box, 0 bytes, nothing
+// Stays: five fields and no Result, since document 01 says of a refusal too which box is left, and that 0 bytes were written.
 #[derive(Clone, Copy)]
 pub struct Outcome {
     pub state: BoxState,

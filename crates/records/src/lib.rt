@@ -14,6 +14,7 @@ use house::{Ballot, BoxNo, Row, Stamp};
 pub use parts::Part;
 
 // the kinds of a record
+// Stays: numbers and no enum, since a Record may hold any, and RecordWritten and BytesReceived say that others are refused by 4 and 1.
 pub const MULTICAST: u8 = 1;
 
 pub const ACCEPT: u8 = 2;

@@ -15,6 +15,12 @@ item n = (space ∷ []) ++ decimal n
 unfoldable pub answer_text : Bool → ℕ → List ℕ
 answer_text refused n = (pick refused (110 ∷ 111 ∷ space ∷ []) (111 ∷ 107 ∷ space ∷ []) ++ decimal n) ++ (line_feed ∷ [])
 
+-- the same for a number written, or the number of a refusal
+abbrev pub numbered_text : Result ℕ ℕ → List ℕ
+numbered_text (Ok n) = answer_text false n
+numbered_text (Err n) = answer_text true n
+
+-- the same for what an order answered
 abbrev pub turn_text : Result ℕ Refusal → List ℕ
 turn_text (Ok n) = answer_text false n
 turn_text (Err why) = answer_text true (refusal_no why)

@@ -4,9 +4,7 @@ ghost use Rattle.std.specs.Prelude.{[], ◌∷◌, ◌++◌, ◌≡◌, ◌≤�
 ghost use Rattle.laws.specs.Tray.{onto};
 ghost use Rattle.lines.specs.Numeral.{decimal};
 ghost use Rattle.lines.specs.Parts.{line_feed};
-ghost use Rattle.report.specs.Texts.{item, turn_text, answer_most};
-
-use records::Refusal;
+ghost use Rattle.report.specs.Texts.{item, numbered_text, answer_most};
 
 // A copy of the bytes.
 #[tactic(auto, unfolding(laws::specs::Tray::onto))]
@@ -49,12 +47,12 @@ fn put_answer(word: &[u8; 3], n: u32, t: &mut [u8]) -> usize
 
 // The answer to a line: `ok N`, the records written, or `no N`, the number of the refusal.
 #[tactic(auto, unfolding(crate::specs::Texts::answer_text, laws::specs::Choice::pick))]
-pub fn answer_line(answer: Result<u32, Refusal>, t: &mut [u8]) -> usize
+pub fn answer_line(answer: Result<u32, u32>, t: &mut [u8]) -> usize
     requires { answer_most ≤ length t.old }
-    ensures { (result ≤ answer_most) × (result ≡ length (turn_text answer)) × (t.new ≡ onto (turn_text answer) t.old) }
+    ensures { (result ≤ answer_most) × (result ≡ length (numbered_text answer)) × (t.new ≡ onto (numbered_text answer) t.old) }
 {
     match answer {
         Ok(records) => put_answer(b"ok ", records, t),
-        Err(why) => put_answer(b"no ", u8::from(why) as u32, t),
+        Err(n) => put_answer(b"no ", n, t),
     }
 }

@@ -1,12 +1,12 @@
 // What one line does before any box is asked, and what is said when one was.
 // The definitions stand in specs/Heard.antt and specs/Hears.antt.
-ghost use Rattle.std.specs.Prelude.{true, ◌≡◌, ◌≤◌, length};
+ghost use Rattle.std.specs.Prelude.{true, ◌≡◌, ◌≤◌, length, Err};
 ghost use Rattle.laws.specs.Choice.{pick};
 ghost use Rattle.laws.specs.Tray.{onto};
 ghost use Rattle.boxes.specs.Sound.{sound};
 ghost use Rattle.post.specs.Posting.{most_place};
 ghost use Rattle.rehearsal.specs.Alone.{Starts};
-ghost use Rattle.report.specs.Texts.{answer_most};
+ghost use Rattle.report.specs.Texts.{turn_text, answer_most};
 ghost use Rattle.session.specs.Heard.{unread, plan_line};
 ghost use Rattle.session.specs.Hears.{ask_of, settled_text, Plain, Obeys, Hears};
 
@@ -25,12 +25,20 @@ pub struct Heard {
     pub known: bool,
 }
 
+// the answer to a line that is refused
+fn say_refused(why: Refusal, t: &mut [u8]) -> usize
+    requires { answer_most ≤ length t.old }
+    ensures { (result ≤ answer_most) × (result ≡ length (turn_text (Err why))) × (t.new ≡ onto (turn_text (Err why)) t.old) }
+{
+    report::answer_line(Err(u8::from(why) as u32), t)
+}
+
 // a line that is unreadable or misplaced
 fn hear_unread(desk: Desk, t: &mut [u8]) -> Heard
     requires { answer_most ≤ length t.old }
     ensures { Plain desk unread result t.old t.new }
 {
-    let text = report::answer_line(Err(Refusal::Unreadable), t);
+    let text = say_refused(Refusal::Unreadable, t);
     Heard {
         goes: None,
         desk,
@@ -79,7 +87,7 @@ fn hear_order(
             known,
         },
         Err(why) => {
-            let text = report::answer_line(Err(why), t);
+            let text = say_refused(why, t);
             Heard {
                 goes: None,
                 desk: fixed,
@@ -134,7 +142,7 @@ pub fn say_settled(fits: bool, records: u16, t: &mut [u8]) -> usize
     ensures { (result ≤ answer_most) × (result ≡ length (settled_text fits records)) × (t.new ≡ onto (settled_text fits records) t.old) }
 {
     if !fits {
-        return report::answer_line(Err(Refusal::PostFull), t);
+        return say_refused(Refusal::PostFull, t);
     }
     report::answer_line(Ok(records as u32), t)
 }

@@ -2,3 +2,4 @@
 pub mod Acting
 pub mod Judged
 pub mod Judging
+pub mod Owned

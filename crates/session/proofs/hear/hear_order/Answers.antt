@@ -17,7 +17,7 @@ returns-in-Ok c =
 
 pub returns-in-Err : goal.returns-in-Err
 returns-in-Err c =
-    let l = c.answer_line-text.ensures in
+    let l = c.say_refused-text.ensures in
     record {
       refuse =
           λ q. (_, c.judge.ensures.refuse _ c.in-Err.is, record { desk_is = c.fix-fixed.ensures; long = l.1; most = l.0; text_is = l.2 });
