@@ -13,10 +13,10 @@ pub use change::{
 pub use fresh::{cut_box, fresh_box, no_vote};
 use house::{Ballot, BoxNo, Row, Stamp};
 pub use look::{
-    home_in, is_leader, is_recovering, kept_ballot, kept_stamp, last_stamp, marks_at, on_list,
-    raise, row_at,
+    home_in, is_leader, is_recovering, kept_ballot, kept_stamp, last_stamp, listed_at, marks_at,
+    on_list, raise, row_at,
 };
-pub use outcomes::{done, refused};
+pub use outcomes::{all_passed, done, refused};
 use records::Answer;
 
 #[derive(Clone, Copy, Debug, PartialEq, Eq)]

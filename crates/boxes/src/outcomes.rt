@@ -5,7 +5,14 @@ ghost use Rattle.records.specs.Answers.{done};
 ghost use Rattle.boxes.specs.Out.{refusal};
 
 use crate::{BoxState, Outcome};
-use records::Refusal;
+use records::{Answer, Refusal};
+
+// what the tests of a kind or an order come to where none refuses
+pub fn all_passed() -> Answer
+    ensures { result ≡ done }
+{
+    Ok(())
+}
 
 // done: the new box, what was written, and the job delivered
 pub fn done(state: BoxState, used: usize, records: u16, delivery: Option<u8>) -> Outcome

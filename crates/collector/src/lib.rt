@@ -23,10 +23,10 @@ pub fn fresh_box(own: BoxNo) -> BoxState
 }
 
 // 1 for plan and box, 2 for the tray
-fn admit(plan: Plan, x: BoxState, room: usize) -> Answer
-    ensures { result ≡ admission (sound plan x) room }
+fn admit(plan: Plan, x: &BoxState, room: usize) -> Answer
+    ensures { result ≡ admission (sound plan x.now) room }
 {
-    if !soundness::is_sound(plan, x) {
+    if !soundness::is_sound(plan, *x) {
         return Err(Refusal::NotSound);
     }
     if room < house::LEAST_TRAY {
@@ -36,36 +36,36 @@ fn admit(plan: Plan, x: BoxState, room: usize) -> Answer
 }
 
 // the answer to bytes: 1, 2, then the box's own, or the record that it will act on
-fn judge_bytes(plan: Plan, x: BoxState, bytes: &[u8], room: usize) -> Result<Record, Refusal>
-    ensures { Receiving plan x bytes.now room result }
+fn judge_bytes(plan: Plan, x: &BoxState, bytes: &[u8], room: usize) -> Result<Record, Refusal>
+    ensures { Receiving plan x.now bytes.now room result }
 {
     admit(plan, x, room)?;
-    steps::judge_bytes(plan, x, bytes)
+    steps::judge_bytes(plan, *x, bytes)
 }
 
 // a record's bytes from outside
 pub fn receive(plan: Plan, x: BoxState, bytes: &[u8], tray: &mut [u8]) -> Outcome
     ensures { BytesReceived plan x bytes.now tray.old result tray.new }
 {
-    match judge_bytes(plan, x, bytes, tray.len()) {
+    match judge_bytes(plan, &x, bytes, tray.len()) {
         Ok(r) => steps::act(plan, x, r, tray),
         Err(why) => boxes::refused(x, why),
     }
 }
 
 // the answer to a retry: 1, 2, then its own tests
-fn judge_retry(plan: Plan, x: BoxState, job: u8, room: usize) -> Answer
-    ensures { Answering plan x (retried plan x job room) (retries plan x job) room result }
+fn judge_retry(plan: Plan, x: &BoxState, job: u8, room: usize) -> Answer
+    ensures { Answering plan x.now (retried plan x.now job room) (retries plan x.now job) room result }
 {
     admit(plan, x, room)?;
-    jobs::decide_retry(plan, x, job)
+    jobs::decide_retry(plan, *x, job)
 }
 
 // a box sends the job's MULTICAST again
 pub fn retry_job(plan: Plan, x: BoxState, job: u8, tray: &mut [u8]) -> Outcome
     ensures { JobRetried plan x job tray.old result tray.new }
 {
-    if let Err(why) = judge_retry(plan, x, job, tray.len()) {
+    if let Err(why) = judge_retry(plan, &x, job, tray.len()) {
         return boxes::refused(x, why);
     }
     let s = jobs::do_retry(plan, x, job, tray);
@@ -73,18 +73,18 @@ pub fn retry_job(plan: Plan, x: BoxState, job: u8, tray: &mut [u8]) -> Outcome
 }
 
 // the answer to an order to stand: 1, 2, then its own test
-fn judge_stand(plan: Plan, x: BoxState, room: usize) -> Answer
-    ensures { Answering plan x (stood plan x room) (standing plan x) room result × Numbering x result }
+fn judge_stand(plan: Plan, x: &BoxState, room: usize) -> Answer
+    ensures { Answering plan x.now (stood plan x.now room) (standing plan x.now) room result × Numbering x.now result }
 {
     admit(plan, x, room)?;
-    leaders::decide_stand(x)
+    leaders::decide_stand(*x)
 }
 
 // a box stands for leader of its district
 pub fn stand_up(plan: Plan, x: BoxState, tray: &mut [u8]) -> Outcome
     ensures { BoxStood plan x tray.old result tray.new }
 {
-    if let Err(why) = judge_stand(plan, x, tray.len()) {
+    if let Err(why) = judge_stand(plan, &x, tray.len()) {
         return boxes::refused(x, why);
     }
     let s = leaders::do_stand(plan, x, tray);

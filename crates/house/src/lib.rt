@@ -21,7 +21,7 @@ pub use plans::{
 };
 pub use sound_plans::plan_sound;
 
-const MOST_DISTRICTS: u8 = 4;
+pub const MOST_DISTRICTS: u8 = 4;
 
 // boxes of the largest plan
 pub const MOST_BOXES: usize = 12;

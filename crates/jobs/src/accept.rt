@@ -55,7 +55,7 @@ pub fn decide_accept(plan: Plan, x: BoxState, from: BoxNo, job: u8, y: Proposal)
     if !(ballot_fits(plan, x, job, d, y) && stamp_fits(x, job, d, y)) {
         return Err(Refusal::WrongBallot);
     }
-    Ok(())
+    boxes::all_passed()
 }
 
 // keep it; a change clears the marks

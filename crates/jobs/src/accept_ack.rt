@@ -58,7 +58,7 @@ pub fn decide_accept_ack(
     if is_committed || house::has_mark(boxes::marks_at(x, job), from) {
         return Err(Refusal::AlreadyDone);
     }
-    Ok(())
+    boxes::all_passed()
 }
 
 fn mark_by(x: BoxState, job: u8, from: BoxNo) -> BoxState

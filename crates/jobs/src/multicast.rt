@@ -28,7 +28,7 @@ pub fn decide_multicast(plan: Plan, x: BoxState, job: u8) -> Answer
     if is_new && house::MOST_TIME <= x.core.clock {
         return Err(Refusal::AtLimit);
     }
-    Ok(())
+    boxes::all_passed()
 }
 
 // phase 0: clock + 1, new local stamp, phase 1

@@ -22,7 +22,7 @@ pub fn decide_retry(plan: Plan, x: BoxState, job: u8) -> Answer
     if !sending::is_open(x, job) {
         return Err(Refusal::AlreadyDone);
     }
-    Ok(())
+    boxes::all_passed()
 }
 
 // the job's MULTICAST again; the box stays as it is

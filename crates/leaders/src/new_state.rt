@@ -23,7 +23,7 @@ pub fn decide_new_state(x: BoxState, b: Ballot) -> Answer
     if b != x.core.ballot {
         return Err(Refusal::WrongBallot);
     }
-    Ok(())
+    boxes::all_passed()
 }
 
 // follower, cballot set, clock and table taken

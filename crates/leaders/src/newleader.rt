@@ -20,7 +20,7 @@ pub fn decide_newleader(x: BoxState, b: Ballot) -> Answer
     if b <= x.core.ballot {
         return Err(Refusal::WrongBallot);
     }
-    Ok(())
+    boxes::all_passed()
 }
 
 // recovering, ballot set, vote dropped

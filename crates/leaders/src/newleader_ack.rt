@@ -35,7 +35,7 @@ pub fn decide_newleader_ack(x: BoxState, from: BoxNo, b: Ballot) -> Answer
     if x.core.cballot == x.core.ballot || voted_by(x, from) {
         return Err(Refusal::AlreadyDone);
     }
-    Ok(())
+    boxes::all_passed()
 }
 
 // the votes at hand with one more

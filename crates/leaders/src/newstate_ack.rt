@@ -23,7 +23,7 @@ pub fn decide_newstate_ack(x: BoxState, b: Ballot) -> Answer
     if b != x.core.ballot || b != x.core.cballot {
         return Err(Refusal::WrongBallot);
     }
-    Ok(())
+    boxes::all_passed()
 }
 
 // leader

@@ -20,7 +20,7 @@ pub fn decide_stand(x: BoxState) -> Answer
     if house::MOST_NUMBER <= x.core.ballot.number {
         return Err(Refusal::AtLimit);
     }
-    Ok(())
+    boxes::all_passed()
 }
 
 // NEWLEADER with the next ballot to the district; the box stays as it is

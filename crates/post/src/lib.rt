@@ -6,6 +6,7 @@ ghost use Rattle.laws.specs.Tray.{onto};
 ghost use Rattle.laws.specs.Choice.{pick};
 ghost use Rattle.house.specs.Limits.{most_post};
 ghost use Rattle.post.specs.Posting.{room_of, next_start, walk_from, start_of, most_place};
+ghost use Rattle.post.specs.Index.{Indexed};
 
 use house::Plan;
 
@@ -16,55 +17,57 @@ const MOST_RECORDS: usize = house::MOST_POST / LEAST_RECORD;
 
 pub const INDEX_ROOM: usize = MOST_RECORDS + 1;
 
-// where the first records begin, up to the one of number `last`
+// where the first records begin, up to the one of number `last`: as many as its lender gives places for
 #[derive(Drop)]
-pub struct Index<const N: usize> {
-    places: [u16; N],
+pub struct Index<'a> {
+    places: &'a mut [u16],
     last: usize,
 }
 
-impl<const N: usize> Index<N> {
+impl<'a> Index<'a> {
     ghost use Rattle.std.specs.Prelude.{ℕ, List};
     ghost use Rattle.house.specs.declared.Plan.{Plan};
     ghost use Rattle.post.specs.Index.{Indexed};
 
     // the first record begins at 0, whatever the plan and the post
-    pub fn new() -> Self
-        ensures { 0 < N → (P : Plan) (s : List ℕ) (used : ℕ) → Indexed P s used result }
+    pub fn new(places: &'a mut [u16]) -> Index<'a>
+        ensures { 0 < length places.old → (P : Plan) (s : List ℕ) (used : ℕ) → Indexed P s used result.places.now result.last }
     {
-        Index {
-            places: [0; N],
-            last: 0,
+        if places.is_empty() {
+            return Index { places, last: 0 };
         }
+        places[0] = 0;
+        Index { places, last: 0 }
     }
 
-    // it goes on until it has record k, or as far as records lie within what is used and its room goes
+    // over places that know where the records up to the one of number `last` begin
+    pub fn of(places: &'a mut [u16], last: usize) -> Index<'a>
+        ensures { (result.places.now ≡ places.old) × (result.last ≡ last) }
+    {
+        Index { places, last }
+    }
+
+    // the number of the last record that it has
+    pub fn last(&self) -> usize
+        ensures { result ≡ self.now.last }
+    {
+        self.last
+    }
+
+    // it goes on until it has record k, or as far as records lie within what is used and its places go
     pub fn extend(&mut self, plan: Plan, s: &[u8], used: usize, k: u32)
-        requires { Indexed plan s.now used self.old }
-        ensures { Indexed plan s.now used self.new × (self.old.last ≤ self.new.last) }
+        requires { Indexed plan s.now used self.old.places.now self.old.last }
+        ensures { Indexed plan s.now used self.new.places.now self.new.last × (self.old.last ≤ self.new.last) }
     {
-        for _ in self.last..k as usize {
-            let at = self.places[self.last] as usize;
-            let next = next_start(plan, s, used, at);
-            if self.last + 1 == N || used <= at || used < next || house::MOST_POST <= next {
-                return;
-            }
-            self.last += 1;
-            self.places[self.last] = next as u16;
-        }
+        self.last = extend(plan, s, used, self.places, self.last, k);
     }
 
-    // where record k begins: by the index as far as it goes, else on from its last place
+    // where record k begins
     pub fn find_start(&self, plan: Plan, s: &[u8], used: usize, k: u32) -> usize
-        requires { Indexed plan s.now used self.now }
+        requires { Indexed plan s.now used self.now.places.now self.now.last }
         ensures { (result ≡ start_of plan s.now used k) × (result ≤ most_place) }
     {
-        let want = k as usize;
-        if want <= self.last {
-            return self.places[want] as usize;
-        }
-        let at = self.places[self.last] as usize;
-        start_from(plan, s, used, at, k - self.last as u32)
+        find_start(plan, s, used, k, self.places, self.last)
     }
 }
 
@@ -111,6 +114,38 @@ fn start_from(plan: Plan, s: &[u8], used: usize, from: usize, k: u32) -> usize
         at = next_start(plan, s, used, at);
     }
     at
+}
+
+// an index of `count` records goes on until it has record k, or as far as records lie within what is used and its room goes: the last record
+// that it has
+pub fn extend(plan: Plan, s: &[u8], used: usize, index: &mut [u16], count: usize, k: u32) -> usize
+    requires { Indexed plan s.now used index.old count }
+    ensures { Indexed plan s.now used index.new result × (count ≤ result) }
+{
+    let mut last = count;
+    for _ in count..k as usize {
+        let at = index[last] as usize;
+        let next = next_start(plan, s, used, at);
+        if last + 1 == index.len() || used <= at || used < next || house::MOST_POST <= next {
+            return last;
+        }
+        last += 1;
+        index[last] = next as u16;
+    }
+    last
+}
+
+// where record k begins: by the index as far as it goes, else on from its last place
+pub fn find_start(plan: Plan, s: &[u8], used: usize, k: u32, index: &[u16], count: usize) -> usize
+    requires { Indexed plan s.now used index.now count }
+    ensures { (result ≡ start_of plan s.now used k) × (result ≤ most_place) }
+{
+    let want = k as usize;
+    if want <= count {
+        return index[want] as usize;
+    }
+    let at = index[count] as usize;
+    start_from(plan, s, used, at, k - count as u32)
 }
 
 // the smaller of a place and a length

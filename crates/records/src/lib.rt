@@ -32,7 +32,7 @@ pub const NEW_STATE: u8 = 7;
 pub const NEWSTATE_ACK: u8 = 8;
 
 // the most stamps that a record has
-const STAMPS: usize = 2;
+pub const STAMPS: usize = 2;
 
 #[derive(Clone, Copy)]
 pub struct Record {

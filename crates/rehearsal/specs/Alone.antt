@@ -46,10 +46,10 @@ Starts P s used o start = (k : ℕ) → o ≡ Carry k → start ≡ start_of P s
 
 -- where an order is looked for: the box that it is for, and the beginning of the record that it carries. The index stays right; it
 -- goes on only where the plan is fixed
-pub record Found {N : ℕ} (P : Plan) (fixed : Bool) (used : ℕ) (o : Order) (s : List ℕ) (index : Index N) (r : Place) (later : Index N) : Type 0 where
+pub record Found (P : Plan) (fixed : Bool) (used : ℕ) (o : Order) (s : List ℕ) (index : Index) (r : Place) (later : Index) : Type 0 where
   pub at_low : r.at < most_boxes
   pub asked : plan_sound P ≡ true → exists P (here used) s o ≡ true → r.at ≡ whose P (here used) s o
   pub start_low : r.start ≤ most_place
   pub starts : Starts P s used o r.start
-  pub indexed : Indexed P s used later
+  pub indexed : Indexed P s used later.places.now later.last
   pub stays : fixed ≡ false → later ≡ index

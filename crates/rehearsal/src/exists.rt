@@ -1,13 +1,16 @@
 // Whether what an order names is there, and where: its box, its record.
 // The definition, exists, stands in specs/Night.antt.
-ghost use Rattle.std.specs.Prelude.{◌≡◌, ◌<◌, ◌≤◌};
+ghost use Rattle.std.specs.Prelude.{true, ◌≡◌, ◌<◌, ◌≤◌};
 ghost use Rattle.house.specs.Limits.{most_boxes};
 ghost use Rattle.house.specs.declared.Order.TheVariants.{Carry};
+ghost use Rattle.boxes.specs.Lengths.{Lengths};
+ghost use Rattle.boxes.specs.Sound.{sound};
 ghost use Rattle.post.specs.Index.{Indexed};
 ghost use Rattle.post.specs.Posting.{most_place};
 ghost use Rattle.rehearsal.specs.Night.{exists};
 ghost use Rattle.rehearsal.specs.Alone.{here, Starts, Found};
 
+use boxes::BoxState;
 use house::{Order, Plan};
 use post::Index;
 
@@ -29,15 +32,15 @@ fn place_of(p: u32) -> usize
 }
 
 // where the record that is carried begins, and its box; the index goes on to it, where the plan is fixed
-fn find_record<const N: usize>(
+fn find_record(
     plan: Plan,
     fixed: bool,
     used: usize,
     k: u32,
     post: &[u8],
-    index: &mut Index<N>,
+    index: &mut Index<'_>,
 ) -> Place
-    requires { Indexed plan post.now used index.old }
+    requires { Indexed plan post.now used index.old.places.now index.old.last }
     ensures { Found plan fixed used (Carry k) post.now index.old result index.new }
 {
     if fixed {
@@ -52,15 +55,15 @@ fn find_record<const N: usize>(
 }
 
 // which box an order is for, and where its record begins
-pub fn find<const N: usize>(
+pub fn find(
     plan: Plan,
     fixed: bool,
     used: usize,
     order: Order,
     post: &[u8],
-    index: &mut Index<N>,
+    index: &mut Index<'_>,
 ) -> Place
-    requires { Indexed plan post.now used index.old }
+    requires { Indexed plan post.now used index.old.places.now index.old.last }
     ensures { Found plan fixed used order post.now index.old result index.new }
 {
     match order {
@@ -88,4 +91,12 @@ pub fn is_there(plan: Plan, used: usize, order: Order, start: usize, post: &[u8]
         Order::Cut(p) => p < boxes as u32,
         Order::Carry(k) => start < used && (post::byte_at(post, start + 3) as u16) < boxes,
     }
+}
+
+// whether plan and box are sound, which may be known already; and a box's arrays have their lengths
+pub fn known_sound(plan: Plan, known: bool, x: BoxState) -> bool
+    requires { known ≡ true → sound plan x ≡ true }
+    ensures { (result ≡ sound plan x) × Lengths x }
+{
+    known || soundness::is_sound(plan, x)
 }

@@ -8,7 +8,7 @@ mod nights;
 mod settling;
 
 use boxes::BoxState;
-pub use exists::{Place, find};
+pub use exists::{Place, find, known_sound};
 pub use judging::judge;
 pub use nights::{fresh_night, rehearse};
 pub use settling::{settle, step};

@@ -60,7 +60,8 @@ fn carry_out(plan: Plan, night: Night, at: usize, order: Order, r: Record, post:
 pub fn rehearse(plan: Plan, night: Night, order: Order, post: &mut [u8]) -> Turn
     ensures { OrderRehearsed plan night post.old order result post.new }
 {
-    let mut index = Index::<1>::new();
+    let mut places = [0];
+    let mut index = Index::new(&mut places);
     let place = exists::find(plan, false, night.used, order, post, &mut index);
     let x = box_at(night, place.at);
     let known = soundness::is_sound(plan, x);

@@ -21,8 +21,8 @@ pub record ReadsOn (line : LineState) (chunk : List ℕ) (from : ℕ) (r : Scan)
       → all_read act q (take r.at chunk) ≡ record { line = r.line; state = (all_read act q (take from chunk)).state }
 
 -- from a place on where `line` was coming: at least one byte more is read, up to the end of a line or of the chunk
-pub record Asks {N : ℕ} (line : LineState) (desk : Desk) (used : ℕ) (chunk : List ℕ) (from : ℕ) (post : List ℕ) (index : Index N) (r : Asked)
-    (later : Index N) : Type 0 where
+pub record Asks (line : LineState) (desk : Desk) (used : ℕ) (chunk : List ℕ) (from : ℕ) (post : List ℕ) (index : Index) (r : Asked)
+    (later : Index) : Type 0 where
   pub up : from < r.next
   pub low : r.next ≤ length chunk
   -- a part of a line: it is held, and nothing is done

@@ -1,5 +1,5 @@
 -- What the order of a line does to the box that it asks: it is refused, or the box steps, and its records are behind the last if they fit.
-use Rattle.std.specs.Prelude.{ℕ, ◌≤◌, true, List, ◌≡◌, length, set, take, Option, None, Some, is_some}
+use Rattle.std.specs.Prelude.{ℕ, ◌≤◌, true, List, ◌≡◌, length, set, take, is_some}
 use Rattle.laws.specs.Tray.{onto}
 use Rattle.boxes.specs.Sound.{sound}
 use Rattle.boxes.specs.declared.BoxState.{BoxState}
@@ -21,22 +21,17 @@ pub record Finishes (used more records : ℕ) (tray post before : List ℕ) (r :
   pub said : r.text ≡ length (settled_text (is_some r.used) records)
   pub printed : after ≡ onto (settled_text (is_some r.used) records) before
 
--- the boxes after a turn of the one at a place: its new state, if it has one
-abbrev pub boxes_after : Option BoxState → ℕ → List BoxState → List BoxState
-boxes_after None at boxes = boxes
-boxes_after (Some y) at boxes = set boxes at y
-
--- the order of a line, and the box x that it asks
-pub record Turns (desk : Desk) (used : ℕ) (x : BoxState) (post : List ℕ) (t : Typed) (r : Turned) (later before after : List ℕ) : Type 0 where
+-- the order of a line, and the box x that it asks, which is y then
+pub record Turns (desk : Desk) (used : ℕ) (x : BoxState) (post : List ℕ) (t : Typed) (r : Turned) (y : BoxState) (later before after : List ℕ) : Type 0 where
   pub most : r.text ≤ answer_most
   -- in a night in which the box stands at its place
   pub does : (n : Night) (at : ℕ) → Stands desk.plan used x post (ask_of t) n at
       → (text : List ℕ)
-      × (handled desk n post t ≡ record { desk = r.desk; night = record { boxes = boxes_after r.state at n.boxes; used = r.used }; post = later; text = text })
+      × (handled desk n post t ≡ record { desk = r.desk; night = record { boxes = set n.boxes at y; used = r.used }; post = later; text = text })
       × (r.text ≡ length text) × (after ≡ onto text before)
-  -- a box known to be sound is so under a plan that is fixed, and a new one stays so
+  -- a box known to be sound is so under a plan that is fixed, and stays so
   pub known : r.known ≡ true → (r.desk.fixed ≡ true) × (sound r.desk.plan x ≡ true)
-  pub stays : (y : BoxState) → r.state ≡ Some y → sound r.desk.plan x ≡ true → sound r.desk.plan y ≡ true
+  pub stays : sound r.desk.plan x ≡ true → sound r.desk.plan y ≡ true
   -- a fixed plan stays
   pub fixed : desk.fixed ≡ true → r.desk ≡ desk
   -- the post keeps what is used of it

@@ -40,7 +40,8 @@ fn feed_into(s: Session, chunk: &[u8], post: &mut [u8], t: &mut [u8]) -> Fed
     let mut desk = s.desk;
     let mut line = s.line;
     let mut known = [false; house::MOST_BOXES];
-    let mut index = Index::<INDEX_ROOM>::new();
+    let mut places = [0; INDEX_ROOM];
+    let mut index = Index::new(&mut places);
     let mut text = 0;
     let mut from = 0;
     while from < chunk.len() {
@@ -53,7 +54,7 @@ fn feed_into(s: Session, chunk: &[u8], post: &mut [u8], t: &mut [u8]) -> Fed
                 desk,
                 known[at],
                 used,
-                boxes[at],
+                &mut boxes[at],
                 l.typed,
                 l.place.start,
                 post,
@@ -63,9 +64,6 @@ fn feed_into(s: Session, chunk: &[u8], post: &mut [u8], t: &mut [u8]) -> Fed
             used = r.used;
             text += r.text;
             known[at] = r.known;
-            if let Some(y) = r.state {
-                boxes[at] = y;
-            }
         }
     }
     Fed {

@@ -68,18 +68,18 @@ fn hear_order(
     desk: Desk,
     known: bool,
     used: usize,
-    x: BoxState,
+    x: &BoxState,
     order: Order,
     start: usize,
     post: &[u8],
     t: &mut [u8],
 ) -> Heard
-    requires { (answer_most ≤ length t.old) × (known ≡ true → sound desk.plan x ≡ true) × (start ≤ most_place) × Starts desk.plan post.now used order start }
-    ensures { Obeys desk used x post.now order result t.old t.new }
+    requires { (answer_most ≤ length t.old) × (known ≡ true → sound desk.plan x.now ≡ true) × (start ≤ most_place) × Starts desk.plan post.now used order start }
+    ensures { Obeys desk used x.now post.now order result t.old t.new }
 {
-    let known = known || soundness::is_sound(desk.plan, x);
+    let known = rehearsal::known_sound(desk.plan, known, *x);
     let fixed = draw::fix(desk);
-    match rehearsal::judge(desk.plan, known, used, x, order, start, post) {
+    match rehearsal::judge(desk.plan, known, used, *x, order, start, post) {
         Ok(r) => Heard {
             goes: Some(r),
             desk: fixed,
@@ -113,14 +113,14 @@ pub fn hear(
     desk: Desk,
     known: bool,
     used: usize,
-    x: BoxState,
+    x: &BoxState,
     typed: Typed,
     start: usize,
     post: &[u8],
     t: &mut [u8],
 ) -> Heard
-    requires { (answer_most ≤ length t.old) × (known ≡ true → sound desk.plan x ≡ true) × (start ≤ most_place) × Starts desk.plan post.now used (ask_of typed) start }
-    ensures { Hears desk used x post.now typed result t.old t.new }
+    requires { (answer_most ≤ length t.old) × (known ≡ true → sound desk.plan x.now ≡ true) × (start ≤ most_place) × Starts desk.plan post.now used (ask_of typed) start }
+    ensures { Hears desk used x.now post.now typed result t.old t.new }
 {
     match typed {
         Typed::Districts(g) => hear_plan(

@@ -45,11 +45,10 @@ struct Finished {
     text: usize,
 }
 
-// an order is carried out or refused: its box's new state, if it has one; the plan; how much of the post is used, how many bytes of text it
-// gave; and whether the box, as it was, is known to be sound
+// an order is carried out or refused: the plan; how much of the post is used, how many bytes of text it gave; and whether the box, as it
+// was, is known to be sound
 #[derive(Clone, Copy)]
 pub struct Turned {
-    pub state: Option<BoxState>,
     pub desk: Desk,
     pub used: usize,
     pub text: usize,
@@ -76,16 +75,16 @@ fn read_on(line: LineState, chunk: &[u8], from: usize) -> Scan
 }
 
 // the rest of a line, and what it asks
-pub fn ask<const N: usize>(
+pub fn ask(
     line: LineState,
     desk: Desk,
     used: usize,
     chunk: &[u8],
     from: usize,
     post: &[u8],
-    index: &mut Index<N>,
+    index: &mut Index<'_>,
 ) -> Asked
-    requires { (from < length chunk.now) × Indexed desk.plan post.now used index.old }
+    requires { (from < length chunk.now) × Indexed desk.plan post.now used index.old.places.now index.old.last }
     ensures { Asks line desk used chunk.now from post.now index.old result index.new }
 {
     let scan = read_on(line, chunk, from);
@@ -123,24 +122,23 @@ fn finish(
     Finished { used, text }
 }
 
-// the order of a line and the box that it asks
+// the order of a line and the box that it asks, which takes its new state in its place where it has one
 pub fn turn(
     desk: Desk,
     sure: bool,
     used: usize,
-    x: BoxState,
+    x: &mut BoxState,
     typed: Typed,
     start: usize,
     post: &mut [u8],
     t: &mut [u8],
 ) -> Turned
-    requires { (answer_most ≤ length t.old) × (sure ≡ true → sound desk.plan x ≡ true) × (start ≤ most_place) × Starts desk.plan post.old used (ask_of typed) start }
-    ensures { Turns desk used x post.old typed result post.new t.old t.new }
+    requires { (answer_most ≤ length t.old) × (sure ≡ true → sound desk.plan x.old ≡ true) × (start ≤ most_place) × Starts desk.plan post.old used (ask_of typed) start }
+    ensures { Turns desk used x.old post.old typed result x.new post.new t.old t.new }
 {
     let h = hear::hear(desk, sure, used, x, typed, start, post, t);
     let Some(r) = h.goes else {
         return Turned {
-            state: None,
             desk: h.desk,
             used,
             text: h.text,
@@ -148,18 +146,19 @@ pub fn turn(
         };
     };
     let mut tray = [0u8; house::LEAST_TRAY];
-    let out = rehearsal::step(desk.plan, x, hear::order_of(typed), r, &mut tray);
+    let out = rehearsal::step(desk.plan, *x, hear::order_of(typed), r, &mut tray);
     let f = finish(used, out.used, out.records, &tray, post, t);
     match f.used {
-        Some(used) => Turned {
-            state: Some(out.state),
-            desk: h.desk,
-            used,
-            text: f.text,
-            known: h.known,
-        },
+        Some(used) => {
+            *x = out.state;
+            Turned {
+                desk: h.desk,
+                used,
+                text: f.text,
+                known: h.known,
+            }
+        }
         None => Turned {
-            state: None,
             desk: h.desk,
             used,
             text: f.text,

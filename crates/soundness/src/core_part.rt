@@ -11,15 +11,15 @@ use house::{District, Plan, Stamp};
 const BYTES: usize = 256;
 
 #[tactic(auto, unfolding(boxes::specs::Sound::range_sound))]
-pub fn range_sound(plan: Plan, x: BoxState) -> bool
-    ensures { result ≡ range_sound plan x }
+pub fn range_sound(plan: Plan, x: &BoxState) -> bool
+    ensures { result ≡ range_sound plan x.now }
 {
     house::is_box(plan, x.core.own) && house::time_fits(x.core.clock)
 }
 
 #[tactic(auto, unfolding(boxes::specs::Sound::ballots_sound, house::specs::Pairs::ballot_lt, house::specs::Pairs::same_ballot))]
-pub fn ballots_sound(plan: Plan, x: BoxState) -> bool
-    ensures { result ≡ ballots_sound plan x }
+pub fn ballots_sound(plan: Plan, x: &BoxState) -> bool
+    ensures { result ≡ ballots_sound plan x.now }
 {
     let Core {
         own,
@@ -37,16 +37,16 @@ pub fn ballots_sound(plan: Plan, x: BoxState) -> bool
 }
 
 #[tactic(auto, unfolding(boxes::specs::Sound::table_sound))]
-pub fn table_sound(plan: Plan, x: BoxState) -> bool
-    ensures { result ≡ table_sound plan x }
+pub fn table_sound(plan: Plan, x: &BoxState) -> bool
+    ensures { result ≡ table_sound plan x.now }
 {
     let home = house::home_of(plan, x.core.own);
     rules::rows_sound(plan, home, x.core.table, plan.jobs)
         && rules::spare_rows(x.core.table, plan.jobs)
 }
 
-pub fn sent_sound(plan: Plan, x: BoxState) -> bool
-    ensures { result ≡ sent_sound plan x }
+pub fn sent_sound(plan: Plan, x: &BoxState) -> bool
+    ensures { result ≡ sent_sound plan x.now }
 {
     (0..house::MOST_JOBS)
         .zip(&x.core.sent)
@@ -92,8 +92,8 @@ fn place_sound(
 }
 
 // one pass: a job is flagged where it is listed, and before the first entry stands the first itself
-pub fn list_sound(plan: Plan, x: BoxState) -> bool
-    ensures { result ≡ list_sound plan x }
+pub fn list_sound(plan: Plan, x: &BoxState) -> bool
+    ensures { result ≡ list_sound plan x.now }
 {
     let home = house::home_of(plan, x.core.own);
     let mut last = x.core.list[0].stamp;

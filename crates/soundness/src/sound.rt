@@ -13,12 +13,12 @@ pub fn is_sound(plan: Plan, x: BoxState) -> bool
     ensures { result ≡ sound plan x }
 {
     house::plan_sound(plan)
-        && core_part::range_sound(plan, x)
-        && core_part::ballots_sound(plan, x)
-        && core_part::table_sound(plan, x)
-        && core_part::sent_sound(plan, x)
-        && volatile::kept_sound(plan, x)
-        && volatile::marks_sound(plan, x)
-        && core_part::list_sound(plan, x)
-        && volatile::vote_sound(plan, x)
+        && core_part::range_sound(plan, &x)
+        && core_part::ballots_sound(plan, &x)
+        && core_part::table_sound(plan, &x)
+        && core_part::sent_sound(plan, &x)
+        && volatile::kept_sound(plan, &x)
+        && volatile::marks_sound(plan, &x)
+        && core_part::list_sound(plan, &x)
+        && volatile::vote_sound(plan, &x)
 }

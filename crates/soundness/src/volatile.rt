@@ -25,8 +25,8 @@ fn pair_sound(plan: Plan, job: u8, d: District, b: Ballot, s: Stamp) -> bool
         || (house::named(plan, job, d) && house::ballot_in(plan, d, b) && house::stamp_of(d, s))
 }
 
-pub fn kept_sound(plan: Plan, x: BoxState) -> bool
-    ensures { result ≡ all_kept_sound plan x }
+pub fn kept_sound(plan: Plan, x: &BoxState) -> bool
+    ensures { result ≡ all_kept_sound plan x.now }
 {
     (0..house::PAIRS).all(|at| {
         let job = (at / house::DISTRICTS) as u8;
@@ -57,8 +57,8 @@ fn job_marks_sound(plan: Plan, job: u8, marks: u32) -> bool
     marks == 0 || (house::only_boxes(plan, marks) && unnamed_below(plan, job, marks))
 }
 
-pub fn marks_sound(plan: Plan, x: BoxState) -> bool
-    ensures { result ≡ all_marks_sound plan x }
+pub fn marks_sound(plan: Plan, x: &BoxState) -> bool
+    ensures { result ≡ all_marks_sound plan x.now }
 {
     (0..house::MOST_JOBS)
         .zip(&x.volatile.marks)
@@ -77,8 +77,8 @@ fn is_unvoted(vote: Vote) -> bool
 
 // a vote that is held obeys the rules of the kind 6 record that brought it
 #[tactic(auto, unfolding(boxes::specs::Sound::vote_sound, boxes::specs::Sound::held_sound, boxes::specs::Sound::paper_of, laws::specs::Choice::pick))]
-pub fn vote_sound(plan: Plan, x: BoxState) -> bool
-    ensures { result ≡ vote_sound plan x }
+pub fn vote_sound(plan: Plan, x: &BoxState) -> bool
+    ensures { result ≡ vote_sound plan x.now }
 {
     let vote = x.volatile.vote;
     if !vote.held {

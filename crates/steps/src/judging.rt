@@ -1,9 +1,10 @@
 // What a record is answered, over the box that it comes to.
 // What each function means stands in specs/Step.antt of boxes.
-ghost use Rattle.std.specs.Prelude.{true, ◌≡◌, ◌≤◌, eqb};
+ghost use Rattle.std.specs.Prelude.{true, ◌≡◌, ◌≤◌, eqb, ℕ, List};
 ghost use Rattle.records.specs.Answers.{or_no};
 ghost use Rattle.records.specs.declared.answers.Refusal.TheVariants.{OtherBox};
 ghost use Rattle.records.specs.Format.{most_kind};
+ghost use Rattle.records.specs.Outcome.{RecordRead};
 ghost use Rattle.records.specs.Rec.{meaning};
 ghost use Rattle.boxes.specs.Box.{own_of};
 ghost use Rattle.boxes.specs.Sound.{sound};
@@ -44,12 +45,20 @@ fn judge_record(plan: Plan, x: BoxState, r: Record) -> Answer
     Err(Refusal::OtherBox)
 }
 
+// what bytes were read as, given to a sound box: the reader's answer, 5, and the kind's own tests, or the record that it will act on
+pub fn judge_read(plan: Plan, x: BoxState, read: Result<Record, Refusal>) -> Result<Record, Refusal>
+    requires { (sound plan x ≡ true) × ((s : List ℕ) × RecordRead plan s read) }
+    ensures { (s : List ℕ) → RecordRead plan s read → Judging plan x s result }
+{
+    let r = read?;
+    judge_record(plan, x, r)?;
+    Ok(r)
+}
+
 // bytes given to a sound box: the answers 3 to 10, or the record that it will act on
 pub fn judge_bytes(plan: Plan, x: BoxState, bytes: &[u8]) -> Result<Record, Refusal>
     requires { sound plan x ≡ true }
     ensures { Judging plan x bytes.now result }
 {
-    let r = reader::read_bytes(plan, bytes)?;
-    judge_record(plan, x, r)?;
-    Ok(r)
+    judge_read(plan, x, reader::read_bytes(plan, bytes))
 }

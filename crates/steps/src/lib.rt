@@ -7,4 +7,4 @@ mod judging;
 mod said;
 
 pub use acting::act;
-pub use judging::judge_bytes;
+pub use judging::{judge_bytes, judge_read};

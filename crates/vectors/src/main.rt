@@ -1,7 +1,8 @@
 // Vectors of records: each line of ../stdin is a plan, bytes to read or a record to write; what it must say stands in ../stdout.
 #![tactic(auto)]
 
-ghost use Rattle.std.specs.Prelude.{◌<◌, ◌≤◌, IfOk, IfSome, length};
+ghost use Rattle.std.specs.Prelude.{◌<◌, ◌≤◌, ◌+◌, ◌≡◌, ℕ, IfOk, IfSome, None, Some, drop, eqb, length, position, take};
+ghost use Rattle.std.specs.Option.{MatchOption};
 
 mod forms;
 mod showing;
@@ -27,7 +28,8 @@ fn filled() -> [u8; TRAY] {
 
 // every byte of the tray from n on is as it was
 fn is_kept(tray: &[u8; TRAY], n: usize) -> bool {
-    tray.iter().enumerate().skip(n).all(|(i, b)| *b == fill(i))
+    let before = filled();
+    tray.get(n..) == before.get(n..)
 }
 
 fn show_kept(rt: &impl Print, tray: &[u8; TRAY], n: usize) -> io::Result<()> {
@@ -100,7 +102,8 @@ fn act(
 
 // what stands before the first byte b and what stands behind it, where there is one
 fn split_once(s: &[u8], b: u8) -> Option<(&[u8], &[u8])>
-    ensures { IfSome result (λ parts. length parts.1.now < length s.now) }
+    ensures first { MatchOption result (position (λ x. eqb x b) s.now ≡ None) (λ parts. (k : ℕ) × (position (λ x. eqb x b) s.now ≡ Some k) × (parts.0.now ≡ take k s.now) × (parts.1.now ≡ drop (k + 1) s.now)) }
+    ensures less { IfSome result (λ parts. length parts.1.now < length s.now) }
 {
     let k = s.iter().position(|x| *x == b)?;
     Some((&s[..k], &s[k + 1..]))

@@ -9,12 +9,12 @@ use Rattle.collector.proofs.judge_retry.Goals as goal
 pub returns-in_err-admit : goal.returns-in_err-admit
 returns-in_err-admit c =
     let a = c.args in
-    let e : admission (sound a.plan a.x) a.room ≡ Err c.in_err-admit.field-0.0 = search rules in
+    let e : admission (sound a.plan a.x.now) a.room ≡ Err c.in_err-admit.field-0.0 = search rules in
     let f : c.from_residual.result ≡ Err c.in_err-admit.field-0.0 = search rules in
-    rw f (retry_no a.plan a.x a.job e)
+    rw f (retry_no a.plan a.x.now a.job e)
 
 pub returns : goal.returns
 returns c =
     let a = c.args in
-    let e : admission (sound a.plan a.x) a.room ≡ done = search rules in
-    retry_on a.plan a.x a.job e c.decide_retry.ensures
+    let e : admission (sound a.plan a.x.now) a.room ≡ done = search rules in
+    retry_on a.plan a.x.now a.job e c.decide_retry.ensures

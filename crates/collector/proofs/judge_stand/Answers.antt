@@ -11,12 +11,12 @@ use Rattle.collector.proofs.judge_stand.Goals as goal
 pub returns-in_err-admit : goal.returns-in_err-admit
 returns-in_err-admit c =
     let a = c.args in
-    let e : admission (sound a.plan a.x) a.room ≡ Err c.in_err-admit.field-0.0 = search rules in
+    let e : admission (sound a.plan a.x.now) a.room ≡ Err c.in_err-admit.field-0.0 = search rules in
     let f : c.from_residual.result ≡ Err c.in_err-admit.field-0.0 = search rules in
-    rw f (stand_no a.plan a.x e, λ q. no_done q)
+    rw f (stand_no a.plan a.x.now e, λ q. no_done q)
 
 pub returns : goal.returns
 returns c =
     let a = c.args in
-    let e : admission (sound a.plan a.x) a.room ≡ done = search rules in
-    (stand_on a.plan a.x e c.decide_stand.ensures, λ q. stand_room a.x (sym c.decide_stand.ensures ∙ q))
+    let e : admission (sound a.plan a.x.now) a.room ≡ done = search rules in
+    (stand_on a.plan a.x.now e c.decide_stand.ensures, λ q. stand_room a.x.now (sym c.decide_stand.ensures ∙ q))

@@ -15,17 +15,15 @@ use Rattle.records.specs.Bytes.{stamps_at, rows_at, length_of}
 use Rattle.post.specs.Posting.{length_at, next_start, start_of}
 use Rattle.post.proofs.laws.Posting.{start_none, start_step}
 use Rattle.post.specs.Index.{Indexed}
-use Rattle.post.specs.declared.Index.{Index}
 
 -- ---- the first record begins at 0, whichever the plan and the post
 
-pub indexed_none : {N : ℕ} (index : Index N) → 0 < length index.places → get_or index.places 0 0 ≡ 0 → index.last ≡ 0
-    → (P : Plan) (s : List ℕ) (u : ℕ) → Indexed P s u index
-indexed_none index h e z P s u =
+pub indexed_none : (P : Plan) (s : List ℕ) (u : ℕ) (index : List ℕ) → 0 < length index → get_or index 0 0 ≡ 0 → Indexed P s u index 0
+indexed_none P s u index h e =
     record {
-      some = omega (arith, h, z);
-      starts = λ k l. let i : k ≡ 0 = omega (arith, l, z) in rw i (e ∙ sym (start_none P s u));
-      within = λ k l. absurd (omega (arith, l, z));
+      some = h;
+      starts = λ k l. let z : k ≡ 0 = omega (arith, l) in rw z (e ∙ sym (start_none P s u));
+      within = λ k l. absurd (omega (arith, l));
     }
 
 -- ---- one entry more
@@ -45,20 +43,18 @@ next_far P s used at h =
     let e : next_start P s used at ≡ at + length_of P (get_or s (at + 1) 0) = pick_true (at + length_of P (get_or s (at + 1) 0)) at (lt-ltb at used h) in
     omega (arith, l, e)
 
-module _ {N : ℕ} (P : Plan) (s : List ℕ) (used : ℕ) (index : Index N) (I : Indexed P s used index) where
-  pub indexed_more : (v : ℕ) → index.last + 1 < length index.places → get_or index.places index.last 0 < used
-      → v ≡ next_start P s used (get_or index.places index.last 0) → v ≤ used
-      → Indexed {N = N} P s used (record { places = set index.places (index.last + 1) v; last = index.last + 1 })
+module _ (P : Plan) (s : List ℕ) (used : ℕ) (index : List ℕ) (n : ℕ) (I : Indexed P s used index n) where
+  pub indexed_more : (v : ℕ) → n + 1 < length index → get_or index n 0 < used → v ≡ next_start P s used (get_or index n 0) → v ≤ used
+      → Indexed P s used (set index (n + 1) v) (n + 1)
   indexed_more v h i ev l =
-      let n = index.last in
-      let at = get_or index.places n 0 in
+      let at = get_or index n 0 in
       let e : at ≡ start_of P s used n = I.starts n (omega arith) in
       let w = next_far P s used at i in
-      let m : length (set index.places (n + 1) v) ≡ length index.places = length-set index.places (n + 1) v in
+      let m : length (set index (n + 1) v) ≡ length index = length-set index (n + 1) v in
       record {
         some = omega (arith, h, m);
-        starts = λ k b. ⊎_elim (λ q. rw q (get_or-set_same index.places (n + 1) v 0 h ∙ ev ∙ ap (next_start P s used) e ∙ start_step P s used n))
-            (λ c. get_or-set_other index.places (n + 1) k v 0 (λ q. omega (arith, q, c)) ∙ I.starts k (omega (arith, c)))
+        starts = λ k b. ⊎_elim (λ q. rw q (get_or-set_same index (n + 1) v 0 h ∙ ev ∙ ap (next_start P s used) e ∙ start_step P s used n))
+            (λ c. get_or-set_other index (n + 1) k v 0 (λ q. omega (arith, q, c)) ∙ I.starts k (omega (arith, c)))
             (eq-or-lt_of_le {n = k} {m = n + 1} b);
         within = λ k b. ⊎_elim (λ q. rw q (omega (arith, e, w, ev, l))) (λ c. I.within k c) (eq-or-lt_of_le {n = k} {m = n} (omega (arith, b)));
       }
@@ -77,8 +73,8 @@ next_same P s t u v at m f h =
     ∙ sym (pick_true (at + length_of P (get_or s (at + 1) 0)) at (lt-ltb at u (omega arith)))
 
 module _ (P : Plan) (s t : List ℕ) (u v : ℕ) (m : u ≤ v) (f : take u t ≡ take u s)
-    {N : ℕ} (index : Index N) (I : Indexed P s u index) where
-  start_same : (k : ℕ) → k ≤ index.last → start_of P t v k ≡ start_of P s u k
+    (index : List ℕ) (count : ℕ) (I : Indexed P s u index count) where
+  start_same : (k : ℕ) → k ≤ count → start_of P t v k ≡ start_of P s u k
   start_same zero h = start_none P t v ∙ sym (start_none P s u)
   start_same (suc k) h =
       let e : k + 1 ≡ suc k = omega arith in
@@ -86,7 +82,7 @@ module _ (P : Plan) (s t : List ℕ) (u v : ℕ) (m : u ≤ v) (f : take u t ≡
       ∙ next_same P s t u v (start_of P s u k) m f (I.within k (omega arith))
       ∙ start_step P s u k ∙ ap (start_of P s u) e
 
-  pub indexed_grown : Indexed P t v index
+  pub indexed_grown : Indexed P t v index count
   indexed_grown =
       record {
         some = I.some;

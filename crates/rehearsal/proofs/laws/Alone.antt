@@ -55,7 +55,7 @@ whose_is P n s (Cut p) = refl
 whose_is P n s (Carry k) = refl
 
 -- the box at the place that was found stands there
-pub found_stands : (P : Plan) (fixed : Bool) (n : Night) (s : List ℕ) (o : Order) {N : ℕ} (index : Index N) (r : Place) (later : Index N)
+pub found_stands : (P : Plan) (fixed : Bool) (n : Night) (s : List ℕ) (o : Order) (index : Index) (r : Place) (later : Index)
     → Found P fixed n.used o s index r later
     → Stands P n.used (box_in n r.at) s o n r.at
 found_stands P fixed n s o index r later F =
@@ -98,7 +98,7 @@ alone_is P used x s o n at S =
 pub starts_carry : (P : Plan) (s : List ℕ) (used k at : ℕ) → at ≡ start_of P s used k → Starts P s used (Carry k) at
 starts_carry P s used k at e m q = let h : k ≡ m = cc in e ∙ ap (start_of P s used) h
 
-pub found_as : {P : Plan} {fixed : Bool} {used : ℕ} {o p : Order} {s : List ℕ} {N : ℕ} {index later : Index N} {r : Place} → o ≡ p
+pub found_as : {P : Plan} {fixed : Bool} {used : ℕ} {o p : Order} {s : List ℕ} {index later : Index} {r : Place} → o ≡ p
     → Found P fixed used p s index r later
     → Found P fixed used o s index r later
 found_as e F = rw e F
@@ -117,7 +117,7 @@ module _ (P : Plan) (r p : ℕ) (is : p < most_boxes → r ≡ p) where
       in_night sound (and_right (ltb (start_of P s used k) used) (ltb p (boxes_of P)) q) ∙ f
 
   -- an order that carries nothing
-  module _ {fixed : Bool} {used : ℕ} {s : List ℕ} {N : ℕ} {index : Index N} (I : Indexed P s used index) where
+  module _ {fixed : Bool} {used : ℕ} {s : List ℕ} {index : Index} (I : Indexed P s used index.places.now index.last) where
     here_found : (o : Order) → r < most_boxes → ((k : ℕ) → o ≡ Carry k → ⊥)
         → (plan_sound P ≡ true → exists P (here used) s o ≡ true → r ≡ whose P (here used) s o)
         → Found P fixed used o s index (record { at = r; start = 0 }) index

@@ -61,21 +61,21 @@ holds_after r q a l e =
     }
 
 -- ---- while a chunk is read: which boxes are known to be sound, and an index of the post. A plan that is not fixed may change still
-pub record Sure {N : ℕ} (desk : Desk) (boxes : List BoxState) (used : ℕ) (post : List ℕ) (known : List Bool) (index : Index N) : Type 0 where
-  pub indexed : Indexed desk.plan post used index
-  pub loose : desk.fixed ≡ false → (P : Plan) (s : List ℕ) (u : ℕ) → Indexed P s u index
+pub record Sure (desk : Desk) (boxes : List BoxState) (used : ℕ) (post : List ℕ) (known : List Bool) (index : Index) : Type 0 where
+  pub indexed : Indexed desk.plan post used index.places.now index.last
+  pub loose : desk.fixed ≡ false → (P : Plan) (s : List ℕ) (u : ℕ) → Indexed P s u index.places.now index.last
   pub box : (i : ℕ) → get_or known i false ≡ true → (desk.fixed ≡ true) × (sound desk.plan (box_in (record { boxes = boxes; used = used }) i) ≡ true)
 
 same_or_not : (i j : ℕ) → (i ≡ j) ⊎ (i ≢ j)
 same_or_not i j = ⊎_elim (λ t. inl (eqb-true i j t)) (λ t. inr (eqb-false i j t)) (look (eqb i j))
 
 -- a line has been heard: d is the desk after it, k says whether its box is known to be sound
-pub sure_heard : {desk : Desk} {boxes : List BoxState} {used : ℕ} {post : List ℕ} {known : List Bool} {N : ℕ} {index later : Index N} {o : Order}
+pub sure_heard : {desk : Desk} {boxes : List BoxState} {used : ℕ} {post : List ℕ} {known : List Bool} {index later : Index} {o : Order}
     (r : Place) (d : Desk) (k : Bool) {x : BoxState}
     → r.at < length known → x ≡ box_in (record { boxes = boxes; used = used }) r.at → Found desk.plan desk.fixed used o post index r later
     → (k ≡ true → (d.fixed ≡ true) × (sound d.plan x ≡ true)) → (desk.fixed ≡ true → d ≡ desk) → Sure desk boxes used post known index
     → Sure d boxes used post (set known r.at k) later
-sure_heard {desk} {boxes} {used} {post} {known} {N} {index} {later} {o} r d k {x} l ex F sure stays S =
+sure_heard {desk} {boxes} {used} {post} {known} {index} {later} {o} r d k {x} l ex F sure stays S =
     record {
       indexed = ⊎_elim (λ t. rw (stays t) F.indexed) (λ t. rw (F.stays t) (S.loose t d.plan post used)) (look desk.fixed);
       loose = λ q. ⊎_elim (λ t. never (ap (λ (z : Desk). z.fixed) (stays t) ∙ t) q) (λ t. rw (F.stays t) (S.loose t)) (look desk.fixed);
@@ -96,15 +96,8 @@ sure_heard {desk} {boxes} {used} {post} {known} {N} {index} {later} {o} r d k {x
         let f = S.box i t in
         rw (stays f.0) f
 
--- bytes came behind what is used
-pub sure_grown : {desk : Desk} {boxes : List BoxState} {used : ℕ} {post : List ℕ} {known : List Bool} {N : ℕ} {index : Index N} (u : ℕ) (after : List ℕ)
-    → used ≤ u → take used after ≡ take used post → Sure desk boxes used post known index → Sure desk boxes u after known index
-unfolding box_in
-sure_grown {desk} {boxes} {used} {post} {known} {N} {index} u after m g S =
-    record { indexed = indexed_grown desk.plan post after used u m g index S.indexed; loose = S.loose; box = S.box }
-
 -- a box has stepped, and bytes came behind what is used
-pub sure_stepped : {desk : Desk} {boxes : List BoxState} {used : ℕ} {post : List ℕ} {known : List Bool} {N : ℕ} {index : Index N} (at : ℕ) (y : BoxState)
+pub sure_stepped : {desk : Desk} {boxes : List BoxState} {used : ℕ} {post : List ℕ} {known : List Bool} {index : Index} (at : ℕ) (y : BoxState)
     (u : ℕ) (after : List ℕ)
     → at < length boxes
     → (sound desk.plan (box_in (record { boxes = boxes; used = used }) at) ≡ true → sound desk.plan y ≡ true)
@@ -112,9 +105,9 @@ pub sure_stepped : {desk : Desk} {boxes : List BoxState} {used : ℕ} {post : Li
     → take used after ≡ take used post
     → Sure desk boxes used post known index → Sure desk (set boxes at y) u after known index
 unfolding box_in
-sure_stepped {desk} {boxes} {used} {post} {known} {N} {index} at y u after l f m g S =
+sure_stepped {desk} {boxes} {used} {post} {known} {index} at y u after l f m g S =
     record {
-      indexed = indexed_grown desk.plan post after used u m g index S.indexed;
+      indexed = indexed_grown desk.plan post after used u m g index.places.now index.last S.indexed;
       loose = S.loose;
       box = λ i q.
           let b = S.box i q in

@@ -1,5 +1,5 @@
 -- The loop over the lines of a chunk: what holds at the beginning of each line, and that each line leads on to the next.
-use Rattle.std.specs.Prelude.{Option, None, Some}
+use Rattle.std.specs.Prelude.{Some}
 use Prim.Native.Nat.{ℕ, ◌+◌, ◌-◌, ◌*◌, ◌≤◌, ◌<◌}
 use mathlib.Core.Bool.{Bool, true, false}
 use mathlib.Core.List.{List, ◌++◌}
@@ -27,18 +27,18 @@ use Rattle.session.specs.Heard.{After, handled}
 use Rattle.session.specs.Hears.{ask_of}
 use Rattle.session.specs.World.{World, saying}
 use Rattle.session.specs.Asked.{Asks}
-use Rattle.session.specs.Turned.{Turns, boxes_after}
+use Rattle.session.specs.Turned.{Turns}
 use Rattle.session.specs.declared.turn.Asked.{Asked}
 use Rattle.session.specs.declared.turn.Line.{Line}
 use Rattle.session.specs.declared.turn.Turned.{Turned}
 use Rattle.session.specs.Session.{within, chunk_of, fed_of}
 use Rattle.session.specs.Promises.{Leaves}
-use Rattle.session.proofs.laws.Lines.{Holds, Sure, fed_is, holds_after, acts_on_lem, sure_heard, sure_grown, sure_stepped}
+use Rattle.session.proofs.laws.Lines.{Holds, Sure, fed_is, holds_after, acts_on_lem, sure_heard, sure_stepped}
 use Rattle.session.specs.declared.Session.{Session}
 
 -- at the beginning of a line
-pub record Reads {N : ℕ} (s : Session) (post₀ chunk t₀ : List ℕ) (from : ℕ) (post t : List ℕ) (boxes : List BoxState) (used : ℕ) (desk : Desk)
-    (line : LineState) (known : List Bool) (index : Index N) (text : ℕ) : Type 0 where
+pub record Reads (s : Session) (post₀ chunk t₀ : List ℕ) (from : ℕ) (post t : List ℕ) (boxes : List BoxState) (used : ℕ) (desk : Desk)
+    (line : LineState) (known : List Bool) (index : Index) (text : ℕ) : Type 0 where
   pub low : from ≤ length chunk
   pub room : answer_most * length chunk ≤ length t₀
   pub most : text ≤ answer_most * from
@@ -54,7 +54,7 @@ pub record Reads {N : ℕ} (s : Session) (post₀ chunk t₀ : List ℕ) (from :
 -- at the end of the chunk
 pub ends : {s : Session} {post₀ chunk t₀ : List ℕ} {from : ℕ} {post t : List ℕ} {boxes : List BoxState} {used : ℕ} {desk : Desk} {line : LineState}
     {known : List Bool}
-    {N : ℕ} {index : Index N} {text : ℕ} → Reads s post₀ chunk t₀ from post t boxes used desk line known index text → length chunk ≤ from
+    {index : Index} {text : ℕ} → Reads s post₀ chunk t₀ from post t boxes used desk line known index text → length chunk ≤ from
     →
     Leaves
     (chunk_of s post₀ chunk)
@@ -75,7 +75,7 @@ ends {s} {post₀} {chunk} {t₀} {from} {post} {t} {boxes} {used} {desk} {line}
 -- a turn of the loop
 module _ {s : Session} {post₀ chunk t₀ : List ℕ} {from : ℕ} {post t : List ℕ} {boxes : List BoxState} {used : ℕ} {desk : Desk} {line : LineState}
     {known : List Bool}
-    {N : ℕ} {index : Index N} {text : ℕ} {a : Asked} {later : Index N} (R : Reads s post₀ chunk t₀ from post t boxes used desk line known index text)
+    {index : Index} {text : ℕ} {a : Asked} {later : Index} (R : Reads s post₀ chunk t₀ from post t boxes used desk line known index text)
     (A : Asks line desk used chunk from post index a later) where
   abbrev night : Night
   night = record { boxes = boxes; used = used }
@@ -136,9 +136,9 @@ module _ {s : Session} {post₀ chunk t₀ : List ℕ} {from : ℕ} {post t : Li
           F.starts,
         )
 
-    -- it has been asked
-    module _ (d : BoxState) {r : Turned} {post₁ after : List ℕ}
-        (T : Turns desk used (get_or boxes l.place.at d) post l.typed r post₁ (mid_of text (length t - text) t) after)
+    -- it has been asked, and is y then
+    module _ (d : BoxState) {r : Turned} {y : BoxState} {post₁ after : List ℕ}
+        (T : Turns desk used (get_or boxes l.place.at d) post l.typed r y post₁ (mid_of text (length t - text) t) after)
         (post_now : length post₁ ≡ length post) (said_long : length (put_mid text (length t - text) t after) ≡ length t) where
       abbrev x : BoxState
       x = get_or boxes l.place.at d
@@ -146,23 +146,23 @@ module _ {s : Session} {post₀ chunk t₀ : List ℕ} {from : ℕ} {post t : Li
       abbrev t₁ : List ℕ
       t₁ = put_mid text (length t - text) t after
 
+      abbrev boxes₁ : List BoxState
+      boxes₁ = set boxes l.place.at y
+
       stands : Stands desk.plan used x post (ask_of l.typed) night l.place.at
       stands = rw (box_is d) (found_stands desk.plan desk.fixed night post (ask_of l.typed) index l.place later F)
 
       sure_now : Sure r.desk boxes used post (set known l.place.at r.known) later
       sure_now = sure_heard l.place r.desk r.known (rw R.known_long at_low) (box_is d) F T.known T.fixed R.sure
 
-      -- whatever the boxes are then called
-      turns : (boxes₁ : List BoxState) → boxes₁ ≡ boxes_after r.state l.place.at boxes → length boxes₁ ≡ most_boxes
-          → Sure r.desk boxes₁ r.used post₁ (set known l.place.at r.known) later
-          → Reads s post₀ chunk t₀ a.next post₁ t₁ boxes₁ r.used r.desk a.line (set known l.place.at r.known) later (text + r.text)
-      turns boxes₁ e long S =
+      pub steps : Reads s post₀ chunk t₀ a.next post₁ t₁ boxes₁ r.used r.desk a.line (set known l.place.at r.known) later (text + r.text)
+      steps =
           let D = T.does night l.place.at stands in
           let g = then run.state.text D.0 t₀ t after text r.text R.said R.printed D.2 D.3 in
           let L =
           left
           (record { desk = r.desk; night = record { boxes = boxes₁; used = r.used }; post = post₁; text = D.0 })
-          (rw e D.1)
+          D.1
           t₁
           (text + r.text)
           g.0
@@ -173,43 +173,10 @@ module _ {s : Session} {post₀ chunk t₀ : List ℕ} {from : ℕ} {post t : Li
             most = most_now r.text T.most;
             t_long = said_long ∙ R.t_long;
             post_long = post_now ∙ R.post_long;
-            boxes_long = long;
+            boxes_long = length-set boxes l.place.at y ∙ R.boxes_long;
             known_long = length-set known l.place.at r.known ∙ R.known_long;
             holds = L.0;
             said = L.1;
             printed = L.2;
-            sure = S;
+            sure = sure_stepped l.place.at y r.used post₁ (rw R.boxes_long at_low) (rw (← box_is d) T.stays) T.more T.front sure_now;
           }
-
-      grown : Sure r.desk boxes r.used post₁ (set known l.place.at r.known) later
-      grown = sure_grown r.used post₁ T.more T.front sure_now
-
-      -- its box is a new one
-      pub steps : (y : BoxState) → r.state ≡ Some y
-          →
-          Reads
-          s
-          post₀
-          chunk
-          t₀
-          a.next
-          post₁
-          t₁
-          (set boxes l.place.at y)
-          r.used
-          r.desk
-          a.line
-          (set known l.place.at r.known)
-          later
-          (text + r.text)
-      steps y f =
-          turns
-          (set boxes l.place.at y)
-          (sym (ap (λ (o : Option BoxState). boxes_after o l.place.at boxes) f))
-          (length-set boxes l.place.at y ∙ R.boxes_long)
-          (sure_stepped l.place.at y r.used post₁ (rw R.boxes_long at_low) (rw (← box_is d) (T.stays y f)) T.more T.front sure_now)
-
-      -- or all boxes are as they were
-      pub passes : r.state ≡ None
-          → Reads s post₀ chunk t₀ a.next post₁ t₁ boxes r.used r.desk a.line (set known l.place.at r.known) later (text + r.text)
-      passes f = turns boxes (sym (ap (λ (o : Option BoxState). boxes_after o l.place.at boxes) f)) R.boxes_long grown

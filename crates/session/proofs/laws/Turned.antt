@@ -3,29 +3,33 @@ use Rattle.std.specs.Prelude.{Err, Ok, None, Some, is_some, unwrap_or}
 use Prim.Native.Nat.{ℕ, ◌≤◌}
 use mathlib.Core.Bool.{true, false}
 use mathlib.Core.List.{List}
-use mathlib.Core.Path.{◌≡◌, refl, ap, ◌∙◌}
+use mathlib.Core.Path.{◌≡◌, refl, sym, ap, ◌∙◌}
 use native.Mathlib.Omega.{arith}
 use lib.ListN.{length, set, take}
+use Rattle.std.proofs.lemmas.List.{set-get_or}
 use Rattle.laws.specs.Choice.{pick}
 use Rattle.laws.specs.Tray.{onto}
 use Rattle.house.specs.Limits.{least_tray}
+use Rattle.house.specs.Pairs.{box_no}
 use Rattle.house.specs.Plan.{plan_sound}
 use Rattle.house.specs.declared.Order.{Order}
 use Rattle.records.specs.declared.Record.{Record}
 use Rattle.records.specs.declared.answers.Refusal.TheVariants.{PostFull}
 use Rattle.records.specs.Bytes.{encode_all}
+use Rattle.boxes.specs.Box.{fresh}
 use Rattle.boxes.specs.Out.{Out, result_of, records_of}
 use Rattle.boxes.specs.declared.BoxState.{BoxState}
 use Rattle.boxes.specs.declared.Outcome.{Outcome}
 use Rattle.report.specs.Texts.{answer_most}
 use Rattle.lines.specs.declared.Typed.{Typed}
+use Rattle.rehearsal.specs.Night.{box_in}
 use Rattle.rehearsal.specs.Steps.{step_of, Can}
+use Rattle.rehearsal.specs.declared.Night.{Night}
 use Rattle.rehearsal.proofs.laws.Settled.{wrote, turned_does, turned_full, settles_front, settles_more, after_state}
 use Rattle.session.specs.declared.Desk.{Desk}
 use Rattle.session.specs.Desk.{fixed_desk}
 use Rattle.report.specs.Texts.{turn_text}
 use Rattle.session.proofs.laws.HeardLaws.{obeyed_is}
-use Rattle.session.proofs.laws.Hears.{some_none, some_is}
 use Rattle.session.specs.Hears.{ask_of, settled_text, Hears}
 use Rattle.session.specs.declared.hear.Heard.{Heard}
 use Rattle.session.specs.declared.turn.Finished.{Finished}
@@ -33,23 +37,31 @@ use Rattle.session.specs.Turned.{Finishes, Turns}
 
 -- ---- laws
 
+-- a box that did not change, put back in its place
+as_it_was : (n : Night) (at : ℕ) {x : BoxState} → box_in n at ≡ x → n.boxes ≡ set n.boxes at x
+unfolding box_in
+as_it_was n at e = sym (ap (set n.boxes at) (sym e) ∙ set-get_or n.boxes at (fresh (box_no 0)))
+
 -- a box has been asked
 module _ {desk : Desk} {used : ℕ} {x : BoxState} {post : List ℕ} {t : Typed} {h : Heard} {before mid : List ℕ} (H : Hears desk used x post t h before mid) where
   -- the line is done with
   pub turns_passed : h.goes ≡ None
-      → Turns desk used x post t (record { state = None; desk = h.desk; used = used; text = h.text; known = h.known }) post before mid
+      → Turns desk used x post t (record { desk = h.desk; used = used; text = h.text; known = h.known }) x post before mid
   turns_passed f =
       record {
         most = H.most;
         does = λ n at S.
             let D = H.done f n at S in (
               D.0,
-              D.1 ∙ ap (λ (u : ℕ). record { desk = h.desk; night = record { boxes = n.boxes; used = u }; post = post; text = D.0 }) S.used_is,
+              D.1
+                  ∙ ap (λ (u : ℕ). record { desk = h.desk; night = record { boxes = n.boxes; used = u }; post = post; text = D.0 }) S.used_is
+                  ∙ ap (λ (l : List BoxState). record { desk = h.desk; night = record { boxes = l; used = used }; post = post; text = D.0 })
+                  (as_it_was n at S.box_is),
               D.2,
               D.3,
             );
         known = H.known;
-        stays = λ y e. some_none e refl;
+        stays = λ e. e;
         fixed = H.fixed;
         more = omega arith;
         front = refl;
@@ -85,7 +97,7 @@ module _ {desk : Desk} {used : ℕ} {x : BoxState} {post : List ℕ} {t : Typed}
 
         -- its records fit
         pub turns_gone : {u : ℕ} → v.used ≡ Some u
-            → Turns desk used x post t (record { state = Some out.state; desk = h.desk; used = u; text = v.text; known = h.known }) later before after
+            → Turns desk used x post t (record { desk = h.desk; used = u; text = v.text; known = h.known }) out.state later before after
         unfolding pick
         turns_gone {u} f =
             let fits : is_some v.used ≡ true = rw f in
@@ -110,7 +122,7 @@ module _ {desk : Desk} {used : ℕ} {x : BoxState} {post : List ℕ} {t : Typed}
                 rw fits at said,
               );
               known = H.known;
-              stays = λ y e. rw ((H.go r go).3, ← some_is e, after_state desk.plan x step is) (H.go r go).0.stays;
+              stays = rw ((H.go r go).3, after_state desk.plan x step is) (H.go r go).0.stays;
               fixed = H.fixed;
               more = rw used_is at (settles_more S.settles);
               front = settles_front S.settles;
@@ -118,7 +130,7 @@ module _ {desk : Desk} {used : ℕ} {x : BoxState} {post : List ℕ} {t : Typed}
 
         -- or the post is full
         pub turns_full : v.used ≡ None
-            → Turns desk used x post t (record { state = None; desk = h.desk; used = used; text = v.text; known = h.known }) later before after
+            → Turns desk used x post t (record { desk = h.desk; used = used; text = v.text; known = h.known }) x later before after
         unfolding pick
         turns_full f =
             let full : is_some v.used ≡ false = rw f in
@@ -137,12 +149,20 @@ module _ {desk : Desk} {used : ℕ} {x : BoxState} {post : List ℕ} {t : Typed}
                       text = turn_text (Err PostFull);
                     })
                     T.used_is
+                    ∙ ap
+                    (λ (l : List BoxState). record {
+                      desk = fixed_desk desk;
+                      night = record { boxes = l; used = used };
+                      post = later;
+                      text = turn_text (Err PostFull);
+                    })
+                    (as_it_was n at T.box_is)
                     ),
                 rw full at S.said,
                 rw full at said,
               );
               known = H.known;
-              stays = λ y e. some_none e refl;
+              stays = λ e. e;
               fixed = H.fixed;
               more = omega arith;
               front = settles_front S.settles;

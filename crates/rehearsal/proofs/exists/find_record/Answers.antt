@@ -4,7 +4,7 @@ use Rattle.rehearsal.proofs.laws.Alone.{starts_carry, carry_asked}
 use Rattle.rehearsal.proofs.exists.find_record.Goals as goal
 
 pub returns : goal.returns
-returns g c =
+returns c =
     let a = c.args in
     let t = c.byte_at-to in let q = c.find_start-start in let p = c.place_of in
     record {

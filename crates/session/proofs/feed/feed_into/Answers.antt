@@ -2,7 +2,7 @@
 use Rattle.std.proofs.Common.{rules, arith, refl, sym, ◌<◌}
 use Rattle.house.specs.Limits.{most_boxes}
 use Rattle.session.proofs.laws.Lines.{none_known}
-use Rattle.session.proofs.laws.Reading.{ends, at_low, can_turn, steps, passes}
+use Rattle.session.proofs.laws.Reading.{ends, at_low, can_turn, steps}
 use Rattle.laws.proofs.laws.Choice.{never}
 use Rattle.laws.proofs.laws.Tray.{onto_nil}
 use Rattle.session.proofs.feed.feed_into.Goals as goal
@@ -45,20 +45,9 @@ turn-r-requires c = can_turn c.loop-from.invariant c.ask-a.ensures c.in-Some.is 
 pub bounds-known-at-in-Some : goal.bounds-known-at-in-Some
 bounds-known-at-in-Some c = at_low c.loop-from.invariant c.ask-a.ensures c.in-Some.is
 
-pub offset_bounds-boxes-at-in-Some-state : goal.offset_bounds-boxes-at-in-Some-state
-offset_bounds-boxes-at-in-Some-state c =
-    let g : c.in-Some.l.place.at < most_boxes = at_low c.loop-from.invariant c.ask-a.ensures c.in-Some.is in omega arith
-
-pub bounds-boxes-at-in-Some-state : goal.bounds-boxes-at-in-Some-state
-bounds-boxes-at-in-Some-state c = at_low c.loop-from.invariant c.ask-a.ensures c.in-Some.is
-
-pub loop-from-preserved-in-Some-state : goal.loop-from-preserved-in-Some-state
-loop-from-preserved-in-Some-state c =
-    steps c.loop-from.invariant c.ask-a.ensures c.in-Some.is _ c.turn-r.ensures c.turn-r.auto.post (search rules) _ c.in-Some-state.is
-
-pub loop-from-preserved-in_default-state : goal.loop-from-preserved-in_default-state
-loop-from-preserved-in_default-state c =
-    passes c.loop-from.invariant c.ask-a.ensures c.in-Some.is _ c.turn-r.ensures c.turn-r.auto.post (search rules) c.in_default-state.is
+pub loop-from-preserved-in-Some : goal.loop-from-preserved-in-Some
+loop-from-preserved-in-Some c =
+    steps c.loop-from.invariant c.ask-a.ensures c.in-Some.is _ c.turn-r.ensures c.turn-r.auto.post (search rules)
 
 pub returns : goal.returns
 returns c = ends c.loop-from.invariant c.loop-from-test.false

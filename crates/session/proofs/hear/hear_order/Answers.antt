@@ -9,7 +9,7 @@ returns-in-Ok c =
     let a = c.args in
     record {
       refuse = λ q. some_none refl q;
-      go = λ r q. (subst (Goes a.desk.plan a.used a.x a.post.now a.order) (some_is q) (c.judge.ensures.go _ c.in-Ok.is), refl, refl);
+      go = λ r q. (subst (Goes a.desk.plan a.used a.x.now a.post.now a.order) (some_is q) (c.judge.ensures.go _ c.in-Ok.is), refl, refl);
       fixed = c.fix-fixed.ensures;
       most = search rules;
       known = search rules;

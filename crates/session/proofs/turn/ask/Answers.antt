@@ -10,7 +10,7 @@ use Rattle.lines.specs.declared.LineState.{LineState}
 use Rattle.session.proofs.turn.ask.Goals as goal
 
 pub returns : goal.returns
-returns g c =
+returns c =
     let a = c.args in
     let q = c.read_on-scan in
     let o = c.order_held-typed in

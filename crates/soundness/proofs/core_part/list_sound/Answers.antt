@@ -10,27 +10,27 @@ use Rattle.soundness.proofs.core_part.list_sound.Goals as goal
 
 pub loop-i-init : goal.loop-i-init
 unfolding places_sound all_below
-loop-i-init c = (search rules, seen_none 256 c.args.x.core.list, refl)
+loop-i-init c = (search rules, seen_none 256 c.args.x.now.core.list, refl)
 
 pub returns-then-not-place_sound : goal.returns-then-not-place_sound
 unfolding places_sound nth_sound Seen
 returns-then-not-place_sound c =
     let a = c.args in
     let l = c.loop-i in
-    let list = a.x.core.list in let job = (get_or list l.i no_listed).job in
-    let t = nth_sound a.plan c.home_of-home.result a.x.core.count list in
+    let list = a.x.now.core.list in let job = (get_or list l.i no_listed).job in
+    let t = nth_sound a.plan c.home_of-home.result a.x.now.core.count list in
     let seen : get_or l.seen job false ≡ repeats list job l.i = l.invariant.1.1 job (search rules) in
     let fails : t l.i ≡ false = rw (← seen, ← l.invariant.0) (sym c.place_sound.ensures ∙ c.if-not-place_sound.true) in
     let none : all_below t 64 ≡ false = not_so (all_below t 64) (λ h. let e = all_says t 64 h l.i (search rules) in cc) in
-    rw (← list_is a.plan a.x, ← c.home_of-home.ensures, none) (sym (and-false _))
+    rw (← list_is a.plan a.x.now, ← c.home_of-home.ensures, none) (sym (and-false _))
 
 pub loop-i-preserved : goal.loop-i-preserved
 unfolding places_sound nth_sound Seen
 loop-i-preserved c =
     let a = c.args in
     let l = c.loop-i in
-    let list = a.x.core.list in let job = (get_or list l.i no_listed).job in
-    let t = nth_sound a.plan c.home_of-home.result a.x.core.count list in
+    let list = a.x.now.core.list in let job = (get_or list l.i no_listed).job in
+    let t = nth_sound a.plan c.home_of-home.result a.x.now.core.count list in
     let e : l.i + 1 - 1 ≡ l.i = omega arith in
     let seen : get_or l.seen job false ≡ repeats list job l.i = l.invariant.1.1 job (search rules) in
     let holds : t l.i ≡ true = rw (← seen, ← l.invariant.0) (sym c.place_sound.ensures ∙ c.if-not-place_sound.false) in (
@@ -45,5 +45,5 @@ returns c =
     let a = c.args in
     let l = c.loop-i in
     let e : l.i ≡ 64 = search rules in
-    let all : all_below (nth_sound a.plan c.home_of-home.result a.x.core.count a.x.core.list) 64 ≡ true = rw e at l.invariant.2 in
-    rw (← list_is a.plan a.x, ← c.home_of-home.ensures, all) (sym (and-true _))
+    let all : all_below (nth_sound a.plan c.home_of-home.result a.x.now.core.count a.x.now.core.list) 64 ≡ true = rw e at l.invariant.2 in
+    rw (← list_is a.plan a.x.now, ← c.home_of-home.ensures, all) (sym (and-true _))

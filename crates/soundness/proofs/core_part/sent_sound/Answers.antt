@@ -13,6 +13,6 @@ unfolding sent_sound sent_at
 returns c =
     let a = c.args in
     let t : ℕ × Bool → Bool = λ p. is_job a.plan p.0 || not p.1 in
-    all_in_zip t 64 a.x.core.sent false c.all.new.self c.all.ensures.ran c.zip.ensures.first c.zip.ensures.second.0
+    all_in_zip t 64 a.x.now.core.sent false c.all.new.self c.all.ensures.ran c.zip.ensures.first c.zip.ensures.second.0
     (λ i. or-true _)
     (λ x b q k. search (rules, tests))

@@ -12,7 +12,7 @@ unfolding marks_below
 returns c =
     let a = c.args in
     let t : ℕ × ℕ → Bool = λ p. job_marks_sound a.plan p.0 p.1 in
-    all_in_zip t 64 a.x.volatile.marks no_marks c.all.new.self c.all.ensures.ran c.zip.ensures.first c.zip.ensures.second.0
+    all_in_zip t 64 a.x.now.volatile.marks no_marks c.all.new.self c.all.ensures.ran c.zip.ensures.first c.zip.ensures.second.0
     (unmarked a.plan)
     (λ x b q k. search (rules, tests))
-    ∙ marks_is a.plan a.x
+    ∙ marks_is a.plan a.x.now

@@ -1,56 +1,12 @@
 -- `steps::judging::judge_bytes` meets its contract.
-use Rattle.std.proofs.Common.{rules, ◌≡◌, ◌∙◌, sym, true, Ok, Err}
-use Rattle.records.specs.Answers.{done}
-use Rattle.records.specs.Rules.{valid}
-use Rattle.records.proofs.laws.Outcome.{read_is_promised, read_says, was_read, was_unread}
-use Rattle.records.proofs.laws.Obeys.{valid_kind}
 use Rattle.boxes.proofs.laws.Sound.{sound_plan}
-use Rattle.boxes.specs.Lengths.{Lengths}
-use Rattle.steps.proofs.laws.Judging.{judging_unread, judging_refused, judging_taken}
 use Rattle.steps.proofs.judging.judge_bytes.Goals as goal
 
 pub read_bytes-requires : goal.read_bytes-requires
 read_bytes-requires c = sound_plan c.args.plan c.args.x c.requires
 
-pub returns-in_err-r : goal.returns-in_err-r
-returns-in_err-r c =
-    let a = c.args in
-    let got : c.read_bytes.result ≡ Err c.in_err-r.field-0.0 = search rules in
-    let f : c.from_residual.result ≡ Err c.in_err-r.field-0.0 = search rules in
-    rw f (judging_unread a.plan a.x a.bytes.now c.requires _ (was_unread a.plan a.bytes.now (sym (read_is_promised c.read_bytes.ensures) ∙ got)))
-
-pub judge_record-requires : goal.judge_record-requires
-judge_record-requires c =
-    let a = c.args in
-    let got : c.read_bytes.result ≡ Ok c.in_ok-r.r = search rules in
-    let t = was_read a.plan a.bytes.now (sym (read_is_promised c.read_bytes.ensures) ∙ got) in
-    let v : valid a.plan c.in_ok-r.r ≡ true = rw t.1 (read_says a.plan a.bytes.now t.0).2 in
-    valid_kind a.plan c.in_ok-r.r v
-
-pub returns-in_err-judge_record : goal.returns-in_err-judge_record
-returns-in_err-judge_record c =
-    let a = c.args in
-    let got : c.read_bytes.result ≡ Ok c.in_ok-r.r = search rules in
-    let t = was_read a.plan a.bytes.now (sym (read_is_promised c.read_bytes.ensures) ∙ got) in
-    let no : c.judge_record.result ≡ Err c.in_err-judge_record.field-0.0 = search rules in
-    let f : c.from_residual-in_err-judge_record.result ≡ Err c.in_err-judge_record.field-0.0 = search rules in
-    rw f (judging_refused a.plan a.x a.bytes.now c.requires _ c.in_ok-r.r t.0 t.1 (sym c.judge_record.ensures ∙ no))
+pub judge_read-requires : goal.judge_read-requires
+judge_read-requires c = (c.requires, (c.args.bytes.now, c.read_bytes.ensures))
 
 pub returns : goal.returns
-returns c =
-    let a = c.args in
-    let got : c.read_bytes.result ≡ Ok c.in_ok-r.r = search rules in
-    let t = was_read a.plan a.bytes.now (sym (read_is_promised c.read_bytes.ensures) ∙ got) in
-    let v : valid a.plan c.in_ok-r.r ≡ true = rw t.1 (read_says a.plan a.bytes.now t.0).2 in
-    let yes : c.judge_record.result ≡ done = search rules in
-    let L : Lengths a.x =
-    record {
-      table = search rules;
-      sent = search rules;
-      list = search rules;
-      kept_ballots = search rules;
-      kept_stamps = search rules;
-      marks = search rules;
-      vote_table = search rules;
-    } in
-    judging_taken a.plan a.x a.bytes.now c.requires c.in_ok-r.r L t.0 t.1 v (sym c.judge_record.ensures ∙ yes)
+returns c = c.judge_read.ensures c.args.bytes.now c.read_bytes.ensures
