@@ -17,7 +17,8 @@ const MOST_RECORDS: usize = house::MOST_POST / LEAST_RECORD;
 
 pub const INDEX_ROOM: usize = MOST_RECORDS + 1;
 
-// where the first records begin, up to the one of number `last`: as many as its lender gives places for
+// where the first records begin, up to the one of number `last`: as many as its lender gives places for. Who lends them finds in them
+// what the index knew last, since its functions keep the places' ghost name
 #[derive(Drop)]
 pub struct Index<'a> {
     places: &'a mut [u16],
@@ -31,7 +32,7 @@ impl<'a> Index<'a> {
 
     // the first record begins at 0, whatever the plan and the post
     pub fn new(places: &'a mut [u16]) -> Index<'a>
-        ensures { 0 < length places.old → (P : Plan) (s : List ℕ) (used : ℕ) → Indexed P s used result.places.now result.last }
+        ensures { (0 < length places.old → (P : Plan) (s : List ℕ) (used : ℕ) → Indexed P s used result.places.now result.last) × (result.places.ghost_name ≡ places.entry.ghost_name) }
     {
         if places.is_empty() {
             return Index { places, last: 0 };
@@ -42,7 +43,7 @@ impl<'a> Index<'a> {
 
     // over places that know where the records up to the one of number `last` begin
     pub fn of(places: &'a mut [u16], last: usize) -> Index<'a>
-        ensures { (result.places.now ≡ places.old) × (result.last ≡ last) }
+        ensures { (result.places.now ≡ places.old) × (result.last ≡ last) × (result.places.ghost_name ≡ places.entry.ghost_name) }
     {
         Index { places, last }
     }
@@ -57,7 +58,7 @@ impl<'a> Index<'a> {
     // it goes on until it has record k, or as far as records lie within what is used and its places go
     pub fn extend(&mut self, plan: Plan, s: &[u8], used: usize, k: u32)
         requires { Indexed plan s.now used self.old.places.now self.old.last }
-        ensures { Indexed plan s.now used self.new.places.now self.new.last × (self.old.last ≤ self.new.last) }
+        ensures { Indexed plan s.now used self.new.places.now self.new.last × (self.old.last ≤ self.new.last) × (self.new.places.ghost_name ≡ self.old.places.ghost_name) }
     {
         self.last = extend(plan, s, used, self.places, self.last, k);
     }

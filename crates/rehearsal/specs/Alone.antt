@@ -52,4 +52,6 @@ pub record Found (P : Plan) (fixed : Bool) (used : ℕ) (o : Order) (s : List �
   pub start_low : r.start ≤ most_place
   pub starts : Starts P s used o r.start
   pub indexed : Indexed P s used later.places.now later.last
+  -- over the places that were lent
+  pub lent : later.places.ghost_name ≡ index.places.ghost_name
   pub stays : fixed ≡ false → later ≡ index

@@ -1,6 +1,6 @@
 // What a record is answered, over the box that it comes to.
 // What each function means stands in specs/Step.antt of boxes.
-ghost use Rattle.std.specs.Prelude.{true, ◌≡◌, ◌≤◌, eqb, ℕ, List};
+ghost use Rattle.std.specs.Prelude.{true, ◌≡◌, ◌≤◌, eqb, ℕ, List, Ok};
 ghost use Rattle.records.specs.Answers.{or_no};
 ghost use Rattle.records.specs.declared.answers.Refusal.TheVariants.{OtherBox};
 ghost use Rattle.records.specs.Format.{most_kind};
@@ -48,7 +48,7 @@ fn judge_record(plan: Plan, x: BoxState, r: Record) -> Answer
 // what bytes were read as, given to a sound box: the reader's answer, 5, and the kind's own tests, or the record that it will act on
 pub fn judge_read(plan: Plan, x: BoxState, read: Result<Record, Refusal>) -> Result<Record, Refusal>
     requires { (sound plan x ≡ true) × ((s : List ℕ) × RecordRead plan s read) }
-    ensures { (s : List ℕ) → RecordRead plan s read → Judging plan x s result }
+    ensures { ((s : List ℕ) → RecordRead plan s read → Judging plan x s result) × ((r : Record) → result ≡ Ok r → read ≡ Ok r) }
 {
     let r = read?;
     judge_record(plan, x, r)?;

@@ -121,7 +121,7 @@ module _ (P : Plan) (r p : ℕ) (is : p < most_boxes → r ≡ p) where
     here_found : (o : Order) → r < most_boxes → ((k : ℕ) → o ≡ Carry k → ⊥)
         → (plan_sound P ≡ true → exists P (here used) s o ≡ true → r ≡ whose P (here used) s o)
         → Found P fixed used o s index (record { at = r; start = 0 }) index
-    here_found o l n w = record { at_low = l; asked = w; start_low = omega arith; starts = λ k q. absurd (n k q); indexed = I; stays = λ h. refl }
+    here_found o l n w = record { at_low = l; asked = w; start_low = omega arith; starts = λ k q. absurd (n k q); indexed = I; lent = refl; stays = λ h. refl }
 
     pub post_found : (j : ℕ) → r < most_boxes → p ≡ 0 → Found P fixed used (Post j) s index (record { at = r; start = 0 }) index
     unfolding whose

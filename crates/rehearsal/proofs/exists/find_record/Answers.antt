@@ -13,5 +13,6 @@ returns c =
       start_low = q.ensures.1;
       starts = starts_carry a.plan a.post.now a.used a.k q.result q.ensures.0;
       indexed = search rules;
+      lent = search rules;
       stays = search rules;
     }

@@ -7,7 +7,7 @@ use Rattle.rehearsal.proofs.laws.Settled.{rehearsed_no}
 use Rattle.rehearsal.proofs.nights.rehearse.Goals as goal
 
 pub find-place-requires : goal.find-place-requires
-find-place-requires c = let a = c.args in c.new-index.ensures (omega arith) a.plan a.post.now a.night.used
+find-place-requires c = let a = c.args in c.new-index.ensures.0 (omega arith) a.plan a.post.now a.night.used
 
 pub box_at-x-requires : goal.box_at-x-requires
 box_at-x-requires c = c.find-place.ensures.at_low

@@ -10,7 +10,7 @@ use Rattle.session.proofs.feed.feed_into.Goals as goal
 pub loop-from-init : goal.loop-from-init
 loop-from-init c =
     let a = c.args in
-    let at_first = c.new-index.ensures (omega arith) in
+    let at_first = c.new-index.ensures.0 (omega arith) in
     record {
       low = omega arith;
       room = c.requires;

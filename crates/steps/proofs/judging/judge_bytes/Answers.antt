@@ -9,4 +9,4 @@ pub judge_read-requires : goal.judge_read-requires
 judge_read-requires c = (c.requires, (c.args.bytes.now, c.read_bytes.ensures))
 
 pub returns : goal.returns
-returns c = c.judge_read.ensures c.args.bytes.now c.read_bytes.ensures
+returns c = c.judge_read.ensures.0 c.args.bytes.now c.read_bytes.ensures
