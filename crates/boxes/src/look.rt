@@ -27,15 +27,15 @@ pub fn raise(clock: u32, time: u32) -> u32
 }
 
 // the own district
-pub fn home_in(plan: Plan, x: BoxState) -> District
-    ensures { result ≡ home_in plan x }
+pub fn home_in(plan: Plan, x: &BoxState) -> District
+    ensures { result ≡ home_in plan x.now }
 {
     house::home_of(plan, x.core.own)
 }
 
 #[tactic(auto, using(std::proofs::lemmas::Option::gets), unfolding(crate::specs::Box::row_at))]
-pub fn row_at(x: BoxState, job: u8) -> Row
-    ensures { result ≡ row_at x job }
+pub fn row_at(x: &BoxState, job: u8) -> Row
+    ensures { result ≡ row_at x.now job }
 {
     x.core
         .table
@@ -45,8 +45,8 @@ pub fn row_at(x: BoxState, job: u8) -> Row
 }
 
 #[tactic(auto, using(std::proofs::lemmas::Option::gets), unfolding(crate::specs::Box::marks_at))]
-pub fn marks_at(x: BoxState, job: u8) -> u32
-    ensures { result ≡ marks_at x job }
+pub fn marks_at(x: &BoxState, job: u8) -> u32
+    ensures { result ≡ marks_at x.now job }
 {
     x.volatile
         .marks
@@ -67,8 +67,8 @@ pub fn kept_at(job: usize, d: District) -> usize
 
 // the ballot of the ACCEPT kept for a job and a district
 #[tactic(auto, using(std::proofs::lemmas::Option::gets), unfolding(crate::specs::Box::kept_ballot))]
-pub fn kept_ballot(x: BoxState, job: u8, d: District) -> Ballot
-    ensures { result ≡ kept_ballot x job d }
+pub fn kept_ballot(x: &BoxState, job: u8, d: District) -> Ballot
+    ensures { result ≡ kept_ballot x.now job d }
 {
     x.volatile
         .kept_ballots
@@ -79,8 +79,8 @@ pub fn kept_ballot(x: BoxState, job: u8, d: District) -> Ballot
 
 // and its stamp
 #[tactic(auto, using(std::proofs::lemmas::Option::gets), unfolding(crate::specs::Box::kept_stamp))]
-pub fn kept_stamp(x: BoxState, job: u8, d: District) -> Stamp
-    ensures { result ≡ kept_stamp x job d }
+pub fn kept_stamp(x: &BoxState, job: u8, d: District) -> Stamp
+    ensures { result ≡ kept_stamp x.now job d }
 {
     x.volatile
         .kept_stamps
@@ -98,16 +98,16 @@ fn place(list: &[Listed; house::JOBS], i: u8) -> Listed
 }
 
 #[tactic(auto, unfolding(crate::specs::Box::listed_at))]
-pub fn listed_at(x: BoxState, i: u8) -> Listed
-    ensures { result ≡ listed_at x i }
+pub fn listed_at(x: &BoxState, i: u8) -> Listed
+    ensures { result ≡ listed_at x.now i }
 {
     place(&x.core.list, i)
 }
 
 // the last delivered stamp, none if the list is empty
 #[tactic(auto, unfolding(crate::specs::Box::last_stamp, crate::specs::Box::listed_at, laws::specs::Choice::pick))]
-pub fn last_stamp(x: BoxState) -> Stamp
-    ensures { result ≡ last_stamp x }
+pub fn last_stamp(x: &BoxState) -> Stamp
+    ensures { result ≡ last_stamp x.now }
 {
     if x.core.count == 0 {
         return house::no_stamp();
@@ -116,8 +116,8 @@ pub fn last_stamp(x: BoxState) -> Stamp
 }
 
 // the job is on the delivered list
-pub fn on_list(x: BoxState, job: u8) -> bool
-    ensures { result ≡ on_list x job }
+pub fn on_list(x: &BoxState, job: u8) -> bool
+    ensures { result ≡ on_list x.now job }
 {
     (0..x.core.count).any(|i| place(&x.core.list, i).job == job)
 }

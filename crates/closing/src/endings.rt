@@ -46,8 +46,8 @@ fn end_with(end: JobEnd, p: BoxNo, x: BoxState, job: u8) -> JobEnd
     ensures { result ≡ end_with end p x job }
 {
     JobEnd {
-        first: first_of(end.first, boxes::row_at(x, job)),
-        holders: house::mark_if(boxes::on_list(x, job), end.holders, p),
+        first: first_of(end.first, boxes::row_at(&x, job)),
+        holders: house::mark_if(boxes::on_list(&x, job), end.holders, p),
     }
 }
 

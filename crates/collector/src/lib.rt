@@ -26,7 +26,7 @@ pub fn fresh_box(own: BoxNo) -> BoxState
 fn admit(plan: Plan, x: &BoxState, room: usize) -> Answer
     ensures { result ≡ admission (sound plan x.now) room }
 {
-    if !soundness::is_sound(plan, *x) {
+    if !soundness::is_sound(plan, x) {
         return Err(Refusal::NotSound);
     }
     if room < house::LEAST_TRAY {
@@ -40,7 +40,7 @@ fn judge_bytes(plan: Plan, x: &BoxState, bytes: &[u8], room: usize) -> Result<Re
     ensures { Receiving plan x.now bytes.now room result }
 {
     admit(plan, x, room)?;
-    steps::judge_bytes(plan, *x, bytes)
+    steps::judge_bytes(plan, x, bytes)
 }
 
 // a record's bytes from outside
@@ -48,7 +48,7 @@ pub fn receive(plan: Plan, x: BoxState, bytes: &[u8], tray: &mut [u8]) -> Outcom
     ensures { BytesReceived plan x bytes.now tray.old result tray.new }
 {
     match judge_bytes(plan, &x, bytes, tray.len()) {
-        Ok(r) => steps::act(plan, x, r, tray),
+        Ok(r) => steps::act(plan, &x, r, tray),
         Err(why) => boxes::refused(x, why),
     }
 }
@@ -58,7 +58,7 @@ fn judge_retry(plan: Plan, x: &BoxState, job: u8, room: usize) -> Answer
     ensures { Answering plan x.now (retried plan x.now job room) (retries plan x.now job) room result }
 {
     admit(plan, x, room)?;
-    jobs::decide_retry(plan, *x, job)
+    jobs::decide_retry(plan, x, job)
 }
 
 // a box sends the job's MULTICAST again
@@ -68,7 +68,7 @@ pub fn retry_job(plan: Plan, x: BoxState, job: u8, tray: &mut [u8]) -> Outcome
     if let Err(why) = judge_retry(plan, &x, job, tray.len()) {
         return boxes::refused(x, why);
     }
-    let s = jobs::do_retry(plan, x, job, tray);
+    let s = jobs::do_retry(plan, &x, job, tray);
     boxes::done(x, s.used, s.records, None)
 }
 
@@ -77,7 +77,7 @@ fn judge_stand(plan: Plan, x: &BoxState, room: usize) -> Answer
     ensures { Answering plan x.now (stood plan x.now room) (standing plan x.now) room result × Numbering x.now result }
 {
     admit(plan, x, room)?;
-    leaders::decide_stand(*x)
+    leaders::decide_stand(x)
 }
 
 // a box stands for leader of its district
@@ -87,7 +87,7 @@ pub fn stand_up(plan: Plan, x: BoxState, tray: &mut [u8]) -> Outcome
     if let Err(why) = judge_stand(plan, &x, tray.len()) {
         return boxes::refused(x, why);
     }
-    let s = leaders::do_stand(plan, x, tray);
+    let s = leaders::do_stand(plan, &x, tray);
     boxes::done(x, s.used, s.records, None)
 }
 
@@ -95,7 +95,7 @@ pub fn stand_up(plan: Plan, x: BoxState, tray: &mut [u8]) -> Outcome
 pub fn cut_off(plan: Plan, x: BoxState) -> Outcome
     ensures { BoxCut plan x result }
 {
-    if !soundness::is_sound(plan, x) {
+    if !soundness::is_sound(plan, &x) {
         return boxes::refused(x, Refusal::NotSound);
     }
     boxes::done(boxes::cut_box(x), 0, 0, None)

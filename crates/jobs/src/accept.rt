@@ -16,8 +16,8 @@ use records::{Answer, Proposal, Refusal};
 
 // 2 ACCEPT: the own district's ballot must be cballot, another's not below the kept one
 #[tactic(auto, unfolding(boxes::specs::Accept::ballot_fits, laws::specs::Choice::pick, house::specs::Pairs::same_ballot, house::specs::Pairs::ballot_lt))]
-fn ballot_fits(plan: Plan, x: BoxState, job: u8, d: District, y: Proposal) -> bool
-    ensures { result ≡ ballot_fits plan x job d y }
+fn ballot_fits(plan: Plan, x: &BoxState, job: u8, d: District, y: Proposal) -> bool
+    ensures { result ≡ ballot_fits plan x.now job d y }
 {
     if d == boxes::home_in(plan, x) {
         return y.ballot == x.core.cballot;
@@ -27,23 +27,23 @@ fn ballot_fits(plan: Plan, x: BoxState, job: u8, d: District, y: Proposal) -> bo
 
 // an equal ballot with another stamp is refused
 #[tactic(auto, unfolding(boxes::specs::Accept::stamp_fits, house::specs::Pairs::same_ballot, house::specs::Pairs::same_stamp))]
-fn stamp_fits(x: BoxState, job: u8, d: District, y: Proposal) -> bool
-    ensures { result ≡ stamp_fits x job d y }
+fn stamp_fits(x: &BoxState, job: u8, d: District, y: Proposal) -> bool
+    ensures { result ≡ stamp_fits x.now job d y }
 {
     y.ballot != boxes::kept_ballot(x, job, d) || y.stamp == boxes::kept_stamp(x, job, d)
 }
 
 // the same ACCEPT is kept already
 #[tactic(auto, unfolding(boxes::specs::Accept::same_kept, house::specs::Pairs::same_ballot, house::specs::Pairs::same_stamp))]
-fn same_kept(x: BoxState, job: u8, d: District, y: Proposal) -> bool
-    ensures { result ≡ same_kept x job d y }
+fn same_kept(x: &BoxState, job: u8, d: District, y: Proposal) -> bool
+    ensures { result ≡ same_kept x.now job d y }
 {
     y.ballot == boxes::kept_ballot(x, job, d) && y.stamp == boxes::kept_stamp(x, job, d)
 }
 
 #[tactic(auto, unfolding(boxes::specs::Accept::accept_answer))]
-pub fn decide_accept(plan: Plan, x: BoxState, from: BoxNo, job: u8, y: Proposal) -> Answer
-    ensures { result ≡ accept_answer plan x from job y }
+pub fn decide_accept(plan: Plan, x: &BoxState, from: BoxNo, job: u8, y: Proposal) -> Answer
+    ensures { result ≡ accept_answer plan x.now from job y }
 {
     if !house::named(plan, job, boxes::home_in(plan, x)) {
         return Err(Refusal::NotNamed);
@@ -60,21 +60,21 @@ pub fn decide_accept(plan: Plan, x: BoxState, from: BoxNo, job: u8, y: Proposal)
 
 // keep it; a change clears the marks
 #[tactic(auto, unfolding(boxes::specs::Accept::kept, laws::specs::Choice::pick))]
-fn keep(x: BoxState, job: u8, d: District, y: Proposal) -> BoxState
+fn keep(x: &mut BoxState, job: u8, d: District, y: Proposal)
     requires { (job < most_jobs) × (d.0 < most_districts) }
-    ensures { result ≡ kept x job d y }
+    ensures { x.new ≡ kept x.old job d y }
 {
     let marks = if same_kept(x, job, d, y) {
         boxes::marks_at(x, job)
     } else {
         house::no_marks()
     };
-    boxes::put_kept(x, job as usize, d, y.ballot, y.stamp, marks)
+    boxes::put_kept(x, job as usize, d, y.ballot, y.stamp, marks);
 }
 
 // an ACCEPT is kept for each of the first n districts that the job names
-fn kept_below(plan: Plan, x: BoxState, job: u8, n: u8) -> bool
-    ensures { result ≡ kept_below plan x job n }
+fn kept_below(plan: Plan, x: &BoxState, job: u8, n: u8) -> bool
+    ensures { result ≡ kept_below plan x.now job n }
 {
     (0..n).all(|d| {
         let d = District(d);
@@ -84,16 +84,16 @@ fn kept_below(plan: Plan, x: BoxState, job: u8, n: u8) -> bool
 
 // all named districts are kept, and the own one has cballot
 #[tactic(auto, unfolding(boxes::specs::Accept::all_kept, house::specs::Pairs::same_ballot))]
-fn all_kept(plan: Plan, x: BoxState, job: u8) -> bool
-    ensures { result ≡ all_kept plan x job }
+fn all_kept(plan: Plan, x: &BoxState, job: u8) -> bool
+    ensures { result ≡ all_kept plan x.now job }
 {
     let own = boxes::kept_ballot(x, job, boxes::home_in(plan, x));
     kept_below(plan, x, job, plan.districts) && own == x.core.cballot
 }
 
 // the largest of the stamps kept for the named ones of the first n districts
-pub fn latest_kept(plan: Plan, x: BoxState, job: u8, n: u8) -> Stamp
-    ensures { result ≡ latest_kept plan x job n }
+pub fn latest_kept(plan: Plan, x: &BoxState, job: u8, n: u8) -> Stamp
+    ensures { result ≡ latest_kept plan x.now job n }
 {
     (0..n)
         .map(District)
@@ -120,21 +120,21 @@ fn row_accepted(row: Row, s: Stamp) -> Row
 }
 
 #[tactic(auto, unfolding(boxes::specs::Accept::accepted))]
-fn accept(plan: Plan, x: BoxState, job: u8) -> BoxState
+fn accept(plan: Plan, x: &mut BoxState, job: u8)
     requires { job < most_jobs }
-    ensures { result ≡ accepted plan x job }
+    ensures { x.new ≡ accepted plan x.old job }
 {
     let own = boxes::kept_stamp(x, job, boxes::home_in(plan, x));
     let new = row_accepted(boxes::row_at(x, job), own);
     let latest = latest_kept(plan, x, job, plan.districts);
     let clock = boxes::raise(x.core.clock, latest.time);
-    boxes::put_row(x, clock, job as usize, new)
+    boxes::put_row(x, clock, job as usize, new);
 }
 
 // the boxes of the ballots kept for the named districts
-fn kept_leaders(plan: Plan, x: BoxState, job: u8) -> u32
+fn kept_leaders(plan: Plan, x: &BoxState, job: u8) -> u32
     requires { plan_sound plan ≡ true }
-    ensures { result ≡ marks_of (kept_leader plan x job) (boxes_of plan) }
+    ensures { result ≡ marks_of (kept_leader plan x.now job) (boxes_of plan) }
 {
     house::boxes_where(plan, |p| {
         let home = house::home_of(plan, p);
@@ -144,15 +144,15 @@ fn kept_leaders(plan: Plan, x: BoxState, job: u8) -> u32
 
 // 2 ACCEPT, once it is kept
 #[tactic(auto, unfolding(boxes::specs::Accept::when_kept, laws::specs::Choice::pick), using(crate::proofs::laws::Steps::sent_acks, sending::proofs::laws::Sends::sends_as, records::proofs::laws::Bytes::encode_none, laws::proofs::laws::Tray::onto_nil))]
-fn when_kept(plan: Plan, x: BoxState, job: u8, tray: &mut [u8]) -> Outcome
+fn when_kept(plan: Plan, mut x: BoxState, job: u8, tray: &mut [u8]) -> Outcome
     requires { (plan_sound plan ≡ true) × (job < most_jobs) × (length (encode_all plan (records_of (when_kept plan x job))) ≤ length tray.old) }
     ensures { (result ≡ result_of plan x (when_kept plan x job)) × (tray.new ≡ onto (encode_all plan (records_of (when_kept plan x job))) tray.old) }
 {
-    if all_kept(plan, x, job) {
-        let y = accept(plan, x, job);
-        let r = sending::ack_record(plan, y, y.core.own, job);
-        let meant = kept_leaders(plan, y, job);
-        return sending::done_sending(plan, y, r, meant, tray);
+    if all_kept(plan, &x, job) {
+        accept(plan, &mut x, job);
+        let r = sending::ack_record(plan, &x, x.core.own, job);
+        let meant = kept_leaders(plan, &x, job);
+        return sending::done_sending(plan, x, r, meant, tray);
     }
     boxes::done(x, 0, 0, None)
 }
@@ -161,7 +161,7 @@ fn when_kept(plan: Plan, x: BoxState, job: u8, tray: &mut [u8]) -> Outcome
 #[tactic(auto, unfolding(boxes::specs::Accept::on_accept), using(crate::proofs::laws::Steps::kept_result))]
 pub fn do_accept(
     plan: Plan,
-    x: BoxState,
+    mut x: BoxState,
     from: BoxNo,
     job: u8,
     y: Proposal,
@@ -170,6 +170,6 @@ pub fn do_accept(
     requires { (plan_sound plan ≡ true) × (job < most_jobs) × ((home_of plan from).0 < most_districts) × (length (encode_all plan (records_of (on_accept plan x from job y))) ≤ length tray.old) × (accept_answer plan x from job y ≡ done) }
     ensures { (result ≡ result_of plan x (on_accept plan x from job y)) × (tray.new ≡ onto (encode_all plan (records_of (on_accept plan x from job y))) tray.old) }
 {
-    let z = keep(x, job, house::home_of(plan, from), y);
-    when_kept(plan, z, job, tray)
+    keep(&mut x, job, house::home_of(plan, from), y);
+    when_kept(plan, x, job, tray)
 }

@@ -17,8 +17,14 @@ use house::{Ballot, BoxNo, District, Plan, Row};
 use records::{Answer, Refusal};
 
 // 3 ACCEPT_ACK: the ballot of each of the first n districts that the job names equals the kept one
-fn agree_below(plan: Plan, x: BoxState, job: u8, ballots: [Ballot; house::DISTRICTS], n: u8) -> bool
-    ensures { result ≡ agree_below plan x job ballots n }
+fn agree_below(
+    plan: Plan,
+    x: &BoxState,
+    job: u8,
+    ballots: [Ballot; house::DISTRICTS],
+    n: u8,
+) -> bool
+    ensures { result ≡ agree_below plan x.now job ballots n }
 {
     (0..n).all(|d| {
         let d = District(d);
@@ -28,8 +34,8 @@ fn agree_below(plan: Plan, x: BoxState, job: u8, ballots: [Ballot; house::DISTRI
 
 // and the own one equals cballot
 #[tactic(auto, unfolding(boxes::specs::AcceptAck::agree, house::specs::Pairs::same_ballot))]
-fn all_agree(plan: Plan, x: BoxState, job: u8, ballots: [Ballot; house::DISTRICTS]) -> bool
-    ensures { result ≡ agree plan x job ballots }
+fn all_agree(plan: Plan, x: &BoxState, job: u8, ballots: [Ballot; house::DISTRICTS]) -> bool
+    ensures { result ≡ agree plan x.now job ballots }
 {
     let own = rules::ballot_at(ballots, boxes::home_in(plan, x));
     agree_below(plan, x, job, ballots, plan.districts) && own == x.core.cballot
@@ -38,12 +44,12 @@ fn all_agree(plan: Plan, x: BoxState, job: u8, ballots: [Ballot; house::DISTRICT
 #[tactic(auto, unfolding(boxes::specs::AcceptAck::accept_ack_answer))]
 pub fn decide_accept_ack(
     plan: Plan,
-    x: BoxState,
+    x: &BoxState,
     from: BoxNo,
     job: u8,
     ballots: [Ballot; house::DISTRICTS],
 ) -> Answer
-    ensures { result ≡ accept_ack_answer plan x from job ballots }
+    ensures { result ≡ accept_ack_answer plan x.now from job ballots }
 {
     if !house::named(plan, job, boxes::home_in(plan, x)) {
         return Err(Refusal::NotNamed);
@@ -61,18 +67,18 @@ pub fn decide_accept_ack(
     boxes::all_passed()
 }
 
-fn mark_by(x: BoxState, job: u8, from: BoxNo) -> BoxState
+fn mark_by(x: &mut BoxState, job: u8, from: BoxNo)
     requires { job < most_jobs }
-    ensures { result ≡ put_marks x job (marked (marks_at x job) from) }
+    ensures { x.new ≡ put_marks x.old job (marked (marks_at x.old job) from) }
 {
     let marks = house::mark(boxes::marks_at(x, job), from);
-    boxes::put_marks(x, job as usize, marks)
+    boxes::put_marks(x, job as usize, marks);
 }
 
 // the own mark and a quorum in every named district
 #[tactic(auto, unfolding(boxes::specs::AcceptAck::enough))]
-fn is_enough(plan: Plan, x: BoxState, job: u8) -> bool
-    ensures { result ≡ enough plan x job }
+fn is_enough(plan: Plan, x: &BoxState, job: u8) -> bool
+    ensures { result ≡ enough plan x.now job }
 {
     let marks = boxes::marks_at(x, job);
     house::has_mark(marks, x.core.own) && house::quorum_each(plan, job, marks)
@@ -80,29 +86,29 @@ fn is_enough(plan: Plan, x: BoxState, job: u8) -> bool
 
 // phase 3, global stamp the largest kept, local the own kept (H)
 #[tactic(auto, unfolding(boxes::specs::AcceptAck::committed))]
-fn commit(plan: Plan, x: BoxState, job: u8) -> BoxState
+fn commit(plan: Plan, x: &mut BoxState, job: u8)
     requires { job < most_jobs }
-    ensures { result ≡ committed plan x job }
+    ensures { x.new ≡ committed plan x.old job }
 {
     let new = Row {
         phase: house::COMMITTED,
         local: boxes::kept_stamp(x, job, boxes::home_in(plan, x)),
         global: accept::latest_kept(plan, x, job, plan.districts),
     };
-    boxes::put_row(x, x.core.clock, job as usize, new)
+    boxes::put_row(x, x.core.clock, job as usize, new);
 }
 
 // 3 ACCEPT_ACK, once it is marked
 #[tactic(auto, unfolding(boxes::specs::AcceptAck::when_marked, laws::specs::Choice::pick), using(records::proofs::laws::Bytes::encode_none, laws::proofs::laws::Tray::onto_nil))]
-fn when_marked(plan: Plan, x: BoxState, job: u8, tray: &mut [u8]) -> Outcome
+fn when_marked(plan: Plan, mut x: BoxState, job: u8, tray: &mut [u8]) -> Outcome
     requires { (plan_sound plan ≡ true) × (job < most_jobs) × (length (encode_all plan (records_of (when_marked plan x job))) ≤ length tray.old) }
     ensures { (result ≡ result_of plan x (when_marked plan x job)) × (tray.new ≡ onto (encode_all plan (records_of (when_marked plan x job))) tray.old) }
 {
-    if is_enough(plan, x, job) {
-        let y = commit(plan, x, job);
-        let h = sending::hand_out(tray, plan, y.core);
-        let z = boxes::put_sent(y, h.sent);
-        return boxes::done(z, h.used, h.records, None);
+    if is_enough(plan, &x, job) {
+        commit(plan, &mut x, job);
+        let h = sending::hand_out(tray, plan, x.core);
+        boxes::put_sent(&mut x, h.sent);
+        return boxes::done(x, h.used, h.records, None);
     }
     boxes::done(x, 0, 0, None)
 }
@@ -111,7 +117,7 @@ fn when_marked(plan: Plan, x: BoxState, job: u8, tray: &mut [u8]) -> Outcome
 #[tactic(auto, unfolding(boxes::specs::AcceptAck::on_accept_ack), using(crate::proofs::laws::Steps::marked_result))]
 pub fn do_accept_ack(
     plan: Plan,
-    x: BoxState,
+    mut x: BoxState,
     from: BoxNo,
     job: u8,
     ballots: [Ballot; house::DISTRICTS],
@@ -120,6 +126,6 @@ pub fn do_accept_ack(
     requires { (plan_sound plan ≡ true) × (job < most_jobs) × (length (encode_all plan (records_of (on_accept_ack plan x from job ballots))) ≤ length tray.old) × (accept_ack_answer plan x from job ballots ≡ done) }
     ensures { (result ≡ result_of plan x (on_accept_ack plan x from job ballots)) × (tray.new ≡ onto (encode_all plan (records_of (on_accept_ack plan x from job ballots))) tray.old) }
 {
-    let y = mark_by(x, job, from);
-    when_marked(plan, y, job, tray)
+    mark_by(&mut x, job, from);
+    when_marked(plan, x, job, tray)
 }

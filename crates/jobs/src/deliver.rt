@@ -12,8 +12,8 @@ use records::{Answer, Handout, Refusal};
 
 // 4 DELIVER: not recovering; ballot is cballot; stamp above the last delivered and job not on the list
 #[tactic(auto, unfolding(boxes::specs::Deliver::deliver_answer, house::specs::Pairs::same_ballot, house::specs::Pairs::stamp_lt))]
-pub fn decide_deliver(plan: Plan, x: BoxState, job: u8, y: Handout) -> Answer
-    ensures { result ≡ deliver_answer plan x job y }
+pub fn decide_deliver(plan: Plan, x: &BoxState, job: u8, y: Handout) -> Answer
+    ensures { result ≡ deliver_answer plan x.now job y }
 {
     if !house::named(plan, job, boxes::home_in(plan, x)) {
         return Err(Refusal::NotNamed);
@@ -32,9 +32,9 @@ pub fn decide_deliver(plan: Plan, x: BoxState, job: u8, y: Handout) -> Answer
 
 // phase 3, both stamps, clock raised, job added to the list
 #[tactic(auto, unfolding(boxes::specs::Deliver::delivered))]
-fn deliver(x: BoxState, job: u8, y: Handout) -> BoxState
-    requires { (job < most_jobs) × (x.core.count < most_jobs) }
-    ensures { result ≡ delivered x job y }
+fn deliver(x: &mut BoxState, job: u8, y: Handout)
+    requires { (job < most_jobs) × (x.old.core.count < most_jobs) }
+    ensures { x.new ≡ delivered x.old job y }
 {
     let clock = boxes::raise(x.core.clock, y.global.time);
     let new = Row {
@@ -42,16 +42,16 @@ fn deliver(x: BoxState, job: u8, y: Handout) -> BoxState
         local: y.local,
         global: y.global,
     };
-    let z = boxes::put_row(x, clock, job as usize, new);
-    boxes::put_listed(z, job, y.global)
+    boxes::put_row(x, clock, job as usize, new);
+    boxes::put_listed(x, job, y.global);
 }
 
 // 4 DELIVER
 #[tactic(auto, unfolding(boxes::specs::Deliver::on_deliver), using(records::proofs::laws::Bytes::encode_none))]
-pub fn do_deliver(plan: Plan, x: BoxState, job: u8, y: Handout) -> Outcome
+pub fn do_deliver(plan: Plan, mut x: BoxState, job: u8, y: Handout) -> Outcome
     requires { (job < most_jobs) × (x.core.count < most_jobs) × (deliver_answer plan x job y ≡ done) }
     ensures { result ≡ result_of plan x (on_deliver plan x job y) }
 {
-    let z = deliver(x, job, y);
-    boxes::done(z, 0, 0, Some(job))
+    deliver(&mut x, job, y);
+    boxes::done(x, 0, 0, Some(job))
 }

@@ -13,8 +13,8 @@ use sending::Sent;
 
 // retry: phase 0 or 3 is done already
 #[tactic(auto, unfolding(boxes::specs::Retry::retry_answer))]
-pub fn decide_retry(plan: Plan, x: BoxState, job: u8) -> Answer
-    ensures { result ≡ retry_answer plan x job }
+pub fn decide_retry(plan: Plan, x: &BoxState, job: u8) -> Answer
+    ensures { result ≡ retry_answer plan x.now job }
 {
     if !house::named(plan, job, boxes::home_in(plan, x)) {
         return Err(Refusal::NotNamed);
@@ -27,9 +27,9 @@ pub fn decide_retry(plan: Plan, x: BoxState, job: u8) -> Answer
 
 // the job's MULTICAST again; the box stays as it is
 #[tactic(auto, unfolding(boxes::specs::Retry::retries), using(sending::proofs::laws::Kinds::multicasts_sent, sending::proofs::laws::Sends::sends_as))]
-pub fn do_retry(plan: Plan, x: BoxState, job: u8, tray: &mut [u8]) -> Sent
-    requires { (plan_sound plan ≡ true) × (length (encode_all plan (retries plan x job)) ≤ length tray.old) }
-    ensures { Written plan (retries plan x job) tray.old result tray.new }
+pub fn do_retry(plan: Plan, x: &BoxState, job: u8, tray: &mut [u8]) -> Sent
+    requires { (plan_sound plan ≡ true) × (length (encode_all plan (retries plan x.now job)) ≤ length tray.old) }
+    ensures { Written plan (retries plan x.now job) tray.old result tray.new }
 {
     let r = sending::multicast_record(x.core.own, x.core.own, job);
     let meant = house::named_boxes(plan, job);

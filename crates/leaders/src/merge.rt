@@ -76,14 +76,14 @@ fn merged_table(low: &Vote, high: &Vote, jobs: u8) -> [Row; house::JOBS]
 
 // table merged, clock the larger, sent flags cleared, cballot set, vote dropped
 #[tactic(auto, using(crate::proofs::laws::Votes::clock_of_two), unfolding(boxes::specs::Merge::merged))]
-pub fn merge(plan: Plan, x: BoxState, new: Vote) -> BoxState
-    requires { x.volatile.vote.held ≡ true }
-    ensures { result ≡ merged plan x (votes_with x.volatile.vote new) }
+pub fn merge(plan: Plan, x: &mut BoxState, new: Vote)
+    requires { x.old.volatile.vote.held ≡ true }
+    ensures { x.new ≡ merged plan x.old (votes_with x.old.volatile.vote new) }
 {
     let (low, high) = by_box(x.volatile.vote, new);
     let clock = boxes::raise(low.clock, high.clock);
-    let with_table = boxes::put_table(x, clock, merged_table(&low, &high, plan.jobs));
-    let unsent = boxes::put_sent(with_table, [false; house::JOBS]);
-    let mode = boxes::put_mode(unsent, Status::Recovering, x.core.ballot, x.core.ballot);
-    boxes::put_vote(mode, boxes::no_vote())
+    boxes::put_table(x, clock, merged_table(&low, &high, plan.jobs));
+    boxes::put_sent(x, [false; house::JOBS]);
+    boxes::put_mode(x, Status::Recovering, x.core.ballot, x.core.ballot);
+    boxes::put_vote(x, boxes::no_vote());
 }

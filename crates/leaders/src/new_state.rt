@@ -14,8 +14,8 @@ use records::{Answer, NewState, Refusal};
 
 // recovering, ballot equal
 #[tactic(auto, unfolding(boxes::specs::NewState::new_state_answer, house::specs::Pairs::same_ballot))]
-pub fn decide_new_state(x: BoxState, b: Ballot) -> Answer
-    ensures { result ≡ new_state_answer x b }
+pub fn decide_new_state(x: &BoxState, b: Ballot) -> Answer
+    ensures { result ≡ new_state_answer x.now b }
 {
     if x.core.status != Status::Recovering {
         return Err(Refusal::WrongStatus);
@@ -28,21 +28,27 @@ pub fn decide_new_state(x: BoxState, b: Ballot) -> Answer
 
 // follower, cballot set, clock and table taken
 #[tactic(auto, unfolding(boxes::specs::NewState::followed))]
-fn follow(x: BoxState, y: NewState) -> BoxState
-    ensures { result ≡ followed x y }
+fn follow(x: &mut BoxState, y: NewState)
+    ensures { x.new ≡ followed x.old y }
 {
-    let with_table = boxes::put_table(x, y.clock.time, y.table);
-    boxes::put_mode(with_table, Status::Follower, x.core.ballot, y.ballot)
+    boxes::put_table(x, y.clock.time, y.table);
+    boxes::put_mode(x, Status::Follower, x.core.ballot, y.ballot);
 }
 
 // 7 NEW_STATE
 #[tactic(auto, unfolding(boxes::specs::NewState::on_new_state), using(sending::proofs::laws::Sends::encode_one))]
-pub fn do_new_state(plan: Plan, x: BoxState, from: BoxNo, y: NewState, tray: &mut [u8]) -> Outcome
+pub fn do_new_state(
+    plan: Plan,
+    mut x: BoxState,
+    from: BoxNo,
+    y: NewState,
+    tray: &mut [u8],
+) -> Outcome
     requires { (plan_sound plan ≡ true) × (length (encode_all plan (records_of (on_new_state x from y))) ≤ length tray.old) × (new_state_answer x y.ballot ≡ done) }
     ensures { (result ≡ result_of plan x (on_new_state x from y)) × (tray.new ≡ onto (encode_all plan (records_of (on_new_state x from y))) tray.old) }
 {
-    let z = follow(x, y);
-    let r = sending::newstate_ack_record(x, from, y.ballot);
+    let r = sending::newstate_ack_record(&x, from, y.ballot);
+    follow(&mut x, y);
     let used = writer::put_record(tray, plan, r);
-    boxes::done(z, used, 1, None)
+    boxes::done(x, used, 1, None)
 }

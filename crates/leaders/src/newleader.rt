@@ -14,8 +14,8 @@ use records::{Answer, Refusal};
 
 // 5 NEWLEADER: any status, ballot above own ballot
 #[tactic(auto, unfolding(boxes::specs::Newleader::newleader_answer, house::specs::Pairs::ballot_lt))]
-pub fn decide_newleader(x: BoxState, b: Ballot) -> Answer
-    ensures { result ≡ newleader_answer x b }
+pub fn decide_newleader(x: &BoxState, b: Ballot) -> Answer
+    ensures { result ≡ newleader_answer x.now b }
 {
     if b <= x.core.ballot {
         return Err(Refusal::WrongBallot);
@@ -25,21 +25,21 @@ pub fn decide_newleader(x: BoxState, b: Ballot) -> Answer
 
 // recovering, ballot set, vote dropped
 #[tactic(auto, unfolding(boxes::specs::Newleader::joined))]
-fn join(x: BoxState, b: Ballot) -> BoxState
-    ensures { result ≡ joined x b }
+fn join(x: &mut BoxState, b: Ballot)
+    ensures { x.new ≡ joined x.old b }
 {
-    let dropped = boxes::put_vote(x, boxes::no_vote());
-    boxes::put_mode(dropped, Status::Recovering, b, x.core.cballot)
+    boxes::put_vote(x, boxes::no_vote());
+    boxes::put_mode(x, Status::Recovering, b, x.core.cballot);
 }
 
 // 5 NEWLEADER
 #[tactic(auto, unfolding(boxes::specs::Newleader::on_newleader), using(sending::proofs::laws::Sends::encode_one))]
-pub fn do_newleader(plan: Plan, x: BoxState, from: BoxNo, b: Ballot, tray: &mut [u8]) -> Outcome
+pub fn do_newleader(plan: Plan, mut x: BoxState, from: BoxNo, b: Ballot, tray: &mut [u8]) -> Outcome
     requires { (plan_sound plan ≡ true) × (length (encode_all plan (records_of (on_newleader plan x from b))) ≤ length tray.old) × (newleader_answer x b ≡ done) }
     ensures { (result ≡ result_of plan x (on_newleader plan x from b)) × (tray.new ≡ onto (encode_all plan (records_of (on_newleader plan x from b))) tray.old) }
 {
-    let y = join(x, b);
-    let r = sending::vote_record(plan, x, from, b);
+    let r = sending::vote_record(plan, &x, from, b);
+    join(&mut x, b);
     let used = writer::put_record(tray, plan, r);
-    boxes::done(y, used, 1, None)
+    boxes::done(x, used, 1, None)
 }

@@ -15,16 +15,16 @@ use records::{Answer, Ballotpaper, Refusal};
 
 // this box has voted already
 #[tactic(auto, unfolding(boxes::specs::NewleaderAck::voted_by))]
-fn voted_by(x: BoxState, from: BoxNo) -> bool
-    ensures { result ≡ voted_by x from }
+fn voted_by(x: &BoxState, from: BoxNo) -> bool
+    ensures { result ≡ voted_by x.now from }
 {
     x.volatile.vote.held && x.volatile.vote.voter == from
 }
 
 // 6 NEWLEADER_ACK: recovering, ballot equal, not merged already and not the same voter
 #[tactic(auto, unfolding(boxes::specs::NewleaderAck::newleader_ack_answer, house::specs::Pairs::same_ballot))]
-pub fn decide_newleader_ack(x: BoxState, from: BoxNo, b: Ballot) -> Answer
-    ensures { result ≡ newleader_ack_answer x from b }
+pub fn decide_newleader_ack(x: &BoxState, from: BoxNo, b: Ballot) -> Answer
+    ensures { result ≡ newleader_ack_answer x.now from b }
 {
     if x.core.status != Status::Recovering {
         return Err(Refusal::WrongStatus);
@@ -40,33 +40,33 @@ pub fn decide_newleader_ack(x: BoxState, from: BoxNo, b: Ballot) -> Answer
 
 // the votes at hand with one more
 #[tactic(auto, unfolding(boxes::specs::NewleaderAck::votes_count, laws::specs::Choice::pick))]
-fn votes_count(old: Vote) -> u8
-    ensures { result ≡ votes_count old }
+fn votes_count(old: &Vote) -> u8
+    ensures { result ≡ votes_count old.now }
 {
     if old.held { 2 } else { 1 }
 }
 
 // one vote more makes a quorum
-fn is_quorum(plan: Plan, x: BoxState) -> bool
-    ensures { result ≡ leb (quorum_of plan) (votes_count x.volatile.vote) }
+fn is_quorum(plan: Plan, x: &BoxState) -> bool
+    ensures { result ≡ leb (quorum_of plan) (votes_count x.now.volatile.vote) }
 {
-    house::quorum_of(plan) <= votes_count(x.volatile.vote)
+    house::quorum_of(plan) <= votes_count(&x.volatile.vote)
 }
 
 // 6 NEWLEADER_ACK, with a vote to keep or to merge
 #[tactic(auto, unfolding(boxes::specs::NewleaderAck::when_voted, laws::specs::Choice::pick), using(crate::proofs::laws::Votes::quorum_held, crate::proofs::laws::Voted::states_sent, sending::proofs::laws::Sends::sends_as, records::proofs::laws::Bytes::encode_none, laws::proofs::laws::Tray::onto_nil))]
-fn when_voted(plan: Plan, x: BoxState, v: Vote, tray: &mut [u8]) -> Outcome
+fn when_voted(plan: Plan, mut x: BoxState, v: Vote, tray: &mut [u8]) -> Outcome
     requires { (plan_sound plan ≡ true) × (length (encode_all plan (records_of (when_voted plan x v))) ≤ length tray.old) }
     ensures { (result ≡ result_of plan x (when_voted plan x v)) × (tray.new ≡ onto (encode_all plan (records_of (when_voted plan x v))) tray.old) }
 {
-    if is_quorum(plan, x) {
-        let y = merge::merge(plan, x, v);
-        let r = sending::new_state_record(plan, y, y.core.own);
-        let meant = house::other_boxes(plan, y.core.own);
-        return sending::done_sending(plan, y, r, meant, tray);
+    if is_quorum(plan, &x) {
+        merge::merge(plan, &mut x, v);
+        let r = sending::new_state_record(plan, &x, x.core.own);
+        let meant = house::other_boxes(plan, x.core.own);
+        return sending::done_sending(plan, x, r, meant, tray);
     }
-    let y = boxes::put_vote(x, v);
-    boxes::done(y, 0, 0, None)
+    boxes::put_vote(&mut x, v);
+    boxes::done(x, 0, 0, None)
 }
 
 // 6 NEWLEADER_ACK

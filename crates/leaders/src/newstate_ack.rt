@@ -14,8 +14,8 @@ use records::{Answer, Refusal};
 
 // recovering, ballot and cballot equal
 #[tactic(auto, unfolding(boxes::specs::NewstateAck::newstate_ack_answer, house::specs::Pairs::same_ballot))]
-pub fn decide_newstate_ack(x: BoxState, b: Ballot) -> Answer
-    ensures { result ≡ newstate_ack_answer x b }
+pub fn decide_newstate_ack(x: &BoxState, b: Ballot) -> Answer
+    ensures { result ≡ newstate_ack_answer x.now b }
 {
     if x.core.status != Status::Recovering {
         return Err(Refusal::WrongStatus);
@@ -28,19 +28,19 @@ pub fn decide_newstate_ack(x: BoxState, b: Ballot) -> Answer
 
 // leader
 #[tactic(auto, unfolding(boxes::specs::NewstateAck::leading))]
-fn lead(x: BoxState) -> BoxState
-    ensures { result ≡ leading x }
+fn lead(x: &mut BoxState)
+    ensures { x.new ≡ leading x.old }
 {
-    boxes::put_mode(x, Status::Leader, x.core.ballot, x.core.cballot)
+    boxes::put_mode(x, Status::Leader, x.core.ballot, x.core.cballot);
 }
 
 // 8 NEWSTATE_ACK
-pub fn do_newstate_ack(plan: Plan, x: BoxState, b: Ballot, tray: &mut [u8]) -> Outcome
+pub fn do_newstate_ack(plan: Plan, mut x: BoxState, b: Ballot, tray: &mut [u8]) -> Outcome
     requires { (plan_sound plan ≡ true) × (length (encode_all plan (records_of (on_newstate_ack plan x b))) ≤ length tray.old) × (newstate_ack_answer x b ≡ done) }
     ensures { (result ≡ result_of plan x (on_newstate_ack plan x b)) × (tray.new ≡ onto (encode_all plan (records_of (on_newstate_ack plan x b))) tray.old) }
 {
-    let y = lead(x);
-    let h = sending::hand_out(tray, plan, y.core);
-    let z = boxes::put_sent(y, h.sent);
-    boxes::done(z, h.used, h.records, None)
+    lead(&mut x);
+    let h = sending::hand_out(tray, plan, x.core);
+    boxes::put_sent(&mut x, h.sent);
+    boxes::done(x, h.used, h.records, None)
 }

@@ -14,8 +14,8 @@ use sending::Sent;
 
 // stand: room for the next ballot number
 #[tactic(auto, unfolding(boxes::specs::Stand::stand_answer))]
-pub fn decide_stand(x: BoxState) -> Answer
-    ensures { result ≡ stand_answer x }
+pub fn decide_stand(x: &BoxState) -> Answer
+    ensures { result ≡ stand_answer x.now }
 {
     if house::MOST_NUMBER <= x.core.ballot.number {
         return Err(Refusal::AtLimit);
@@ -25,9 +25,9 @@ pub fn decide_stand(x: BoxState) -> Answer
 
 // NEWLEADER with the next ballot to the district; the box stays as it is
 #[tactic(auto, using(sending::proofs::laws::Kinds::newleaders_sent, sending::proofs::laws::Sends::sends_as))]
-pub fn do_stand(plan: Plan, x: BoxState, tray: &mut [u8]) -> Sent
-    requires { (plan_sound plan ≡ true) × (x.core.ballot.number < most_number) × (length (encode_all plan (standing plan x)) ≤ length tray.old) }
-    ensures { Written plan (standing plan x) tray.old result tray.new }
+pub fn do_stand(plan: Plan, x: &BoxState, tray: &mut [u8]) -> Sent
+    requires { (plan_sound plan ≡ true) × (x.now.core.ballot.number < most_number) × (length (encode_all plan (standing plan x.now)) ≤ length tray.old) }
+    ensures { Written plan (standing plan x.now) tray.old result tray.new }
 {
     let r = sending::stand_record(x, x.core.own);
     let meant = house::home_boxes(plan, x.core.own);

@@ -98,5 +98,5 @@ pub fn known_sound(plan: Plan, known: bool, x: BoxState) -> bool
     requires { known ≡ true → sound plan x ≡ true }
     ensures { (result ≡ sound plan x) × Lengths x }
 {
-    known || soundness::is_sound(plan, x)
+    known || soundness::is_sound(plan, &x)
 }

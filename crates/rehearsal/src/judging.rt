@@ -23,7 +23,7 @@ fn judge_stand(plan: Plan, known: bool, x: BoxState) -> Result<Record, Refusal>
     if !known {
         return Err(Refusal::NotSound);
     }
-    leaders::decide_stand(x)?;
+    leaders::decide_stand(&x)?;
     Ok(records::no_record())
 }
 
@@ -35,7 +35,7 @@ fn judge_retry(plan: Plan, known: bool, x: BoxState, job: u8) -> Result<Record, 
     if !known {
         return Err(Refusal::NotSound);
     }
-    jobs::decide_retry(plan, x, job)?;
+    jobs::decide_retry(plan, &x, job)?;
     Ok(records::no_record())
 }
 
@@ -67,7 +67,7 @@ fn judge_carry(
     let len = records::length_of(plan, kind);
     let from = post::within(start, post.len());
     let end = post::within(start + len, post.len());
-    steps::judge_bytes(plan, x, &post[from..end])
+    steps::judge_bytes(plan, &x, &post[from..end])
 }
 
 // a plan is sound if one of its boxes is known to be

@@ -43,7 +43,7 @@ fn carry_out(plan: Plan, night: Night, at: usize, order: Order, r: Record, post:
 {
     let x = box_at(night, at);
     let mut tray = [0u8; house::LEAST_TRAY];
-    let out = settling::step(plan, x, order, r, &mut tray);
+    let out = settling::step(plan, &x, order, r, &mut tray);
     match settling::settle(night.used, out.used, &tray, post) {
         Some(used) => Turn {
             night: put_box(night, at, out.state, used),
@@ -64,7 +64,7 @@ pub fn rehearse(plan: Plan, night: Night, order: Order, post: &mut [u8]) -> Turn
     let mut index = Index::new(&mut places);
     let place = exists::find(plan, false, night.used, order, post, &mut index);
     let x = box_at(night, place.at);
-    let known = soundness::is_sound(plan, x);
+    let known = soundness::is_sound(plan, &x);
     match judging::judge(plan, known, night.used, x, order, place.start, post) {
         Ok(r) => carry_out(plan, night, place.at, order, r, post),
         Err(why) => Turn {

@@ -22,24 +22,24 @@ fn cut_only(x: BoxState) -> Outcome
 }
 
 // the step of an order that nothing refuses
-pub fn step(plan: Plan, x: BoxState, order: Order, r: Record, tray: &mut [u8]) -> Outcome
-    requires { (plan_sound plan ≡ true) × Can plan x order r × (length (encode_all plan (records_of (step_of plan x order r))) ≤ least_tray) × (length tray.old ≡ least_tray) }
-    ensures { (result ≡ result_of plan x (step_of plan x order r)) × (tray.new ≡ onto (encode_all plan (records_of (step_of plan x order r))) tray.old) }
+pub fn step(plan: Plan, x: &BoxState, order: Order, r: Record, tray: &mut [u8]) -> Outcome
+    requires { (plan_sound plan ≡ true) × Can plan x.now order r × (length (encode_all plan (records_of (step_of plan x.now order r))) ≤ least_tray) × (length tray.old ≡ least_tray) }
+    ensures { (result ≡ result_of plan x.now (step_of plan x.now order r)) × (tray.new ≡ onto (encode_all plan (records_of (step_of plan x.now order r))) tray.old) }
 {
     match order {
         Order::Post(j) => {
             let s = jobs::do_post(plan, j as u8, tray);
-            boxes::done(x, s.used, s.records, None)
+            boxes::done(*x, s.used, s.records, None)
         }
         Order::Stand(_) => {
             let s = leaders::do_stand(plan, x, tray);
-            boxes::done(x, s.used, s.records, None)
+            boxes::done(*x, s.used, s.records, None)
         }
         Order::Retry(_, j) => {
             let s = jobs::do_retry(plan, x, j as u8, tray);
-            boxes::done(x, s.used, s.records, None)
+            boxes::done(*x, s.used, s.records, None)
         }
-        Order::Cut(_) => cut_only(x),
+        Order::Cut(_) => cut_only(*x),
         Order::Carry(_) => steps::act(plan, x, r, tray),
     }
 }

@@ -35,8 +35,8 @@ pub fn multicast_record(from: BoxNo, to: BoxNo, job: u8) -> Record
 
 // the stored stamp
 #[tactic(auto, unfolding(records::specs::Rec::carried))]
-pub fn accept_record(x: BoxState, to: BoxNo, job: u8) -> Record
-    ensures { result ≡ carried (accept (own_of x) to job (record { ballot = x.core.cballot; stamp = (row_at x job).local })) }
+pub fn accept_record(x: &BoxState, to: BoxNo, job: u8) -> Record
+    ensures { result ≡ carried (accept (own_of x.now) to job (record { ballot = x.now.core.cballot; stamp = (row_at x.now job).local })) }
 {
     Record {
         kind: records::ACCEPT,
@@ -51,8 +51,8 @@ pub fn accept_record(x: BoxState, to: BoxNo, job: u8) -> Record
 
 // the ballot kept for a named district, none for another
 #[tactic(auto, unfolding(boxes::specs::Accept::kept_for, laws::specs::Choice::pick))]
-fn kept_for(plan: Plan, x: BoxState, job: u8, d: District) -> Ballot
-    ensures { result ≡ kept_for plan x job d.0 }
+fn kept_for(plan: Plan, x: &BoxState, job: u8, d: District) -> Ballot
+    ensures { result ≡ kept_for plan x.now job d.0 }
 {
     if house::named(plan, job, d) {
         return boxes::kept_ballot(x, job, d);
@@ -60,15 +60,15 @@ fn kept_for(plan: Plan, x: BoxState, job: u8, d: District) -> Ballot
     house::no_ballot()
 }
 
-fn kept_vector(plan: Plan, x: BoxState, job: u8) -> [Ballot; house::DISTRICTS]
-    ensures { result ≡ kept_vector plan x job }
+fn kept_vector(plan: Plan, x: &BoxState, job: u8) -> [Ballot; house::DISTRICTS]
+    ensures { result ≡ kept_vector plan x.now job }
 {
     std::array::from_fn(|d| kept_for(plan, x, job, District(d as u8)))
 }
 
 #[tactic(auto, unfolding(records::specs::Rec::carried))]
-pub fn ack_record(plan: Plan, x: BoxState, to: BoxNo, job: u8) -> Record
-    ensures { result ≡ carried (accept_ack (own_of x) to job (kept_vector plan x job)) }
+pub fn ack_record(plan: Plan, x: &BoxState, to: BoxNo, job: u8) -> Record
+    ensures { result ≡ carried (accept_ack (own_of x.now) to job (kept_vector plan x.now job)) }
 {
     Record {
         kind: records::ACCEPT_ACK,
@@ -97,8 +97,8 @@ pub fn deliver_record(from: BoxNo, to: BoxNo, job: u8, b: Ballot, row: Row) -> R
 
 // the own clock as a stamp of the own district
 #[tactic(auto, unfolding(boxes::specs::Newleader::clock_stamp))]
-fn clock_stamp(plan: Plan, x: BoxState) -> Stamp
-    ensures { result ≡ clock_stamp plan x }
+fn clock_stamp(plan: Plan, x: &BoxState) -> Stamp
+    ensures { result ≡ clock_stamp plan x.now }
 {
     Stamp {
         time: x.core.clock,
@@ -108,8 +108,8 @@ fn clock_stamp(plan: Plan, x: BoxState) -> Stamp
 
 // 6 as stored
 #[tactic(auto, unfolding(records::specs::Rec::carried, boxes::specs::Newleader::vote_for))]
-pub fn vote_record(plan: Plan, x: BoxState, to: BoxNo, b: Ballot) -> Record
-    ensures { result ≡ carried (vote_for plan x to b) }
+pub fn vote_record(plan: Plan, x: &BoxState, to: BoxNo, b: Ballot) -> Record
+    ensures { result ≡ carried (vote_for plan x.now to b) }
 {
     let Core {
         own,
@@ -131,8 +131,8 @@ pub fn vote_record(plan: Plan, x: BoxState, to: BoxNo, b: Ballot) -> Record
 
 // 7 NEW_STATE as the leader to be sends it
 #[tactic(auto, unfolding(records::specs::Rec::carried))]
-pub fn new_state_record(plan: Plan, x: BoxState, to: BoxNo) -> Record
-    ensures { result ≡ carried (new_state (own_of x) to (record { ballot = x.core.ballot; clock = clock_stamp plan x; table = x.core.table })) }
+pub fn new_state_record(plan: Plan, x: &BoxState, to: BoxNo) -> Record
+    ensures { result ≡ carried (new_state (own_of x.now) to (record { ballot = x.now.core.ballot; clock = clock_stamp plan x.now; table = x.now.core.table })) }
 {
     let Core {
         own,
@@ -153,8 +153,8 @@ pub fn new_state_record(plan: Plan, x: BoxState, to: BoxNo) -> Record
 
 // 8 NEWSTATE_ACK as a follower sends it
 #[tactic(auto, unfolding(records::specs::Rec::carried))]
-pub fn newstate_ack_record(x: BoxState, to: BoxNo, b: Ballot) -> Record
-    ensures { result ≡ carried (newstate_ack (own_of x) to b) }
+pub fn newstate_ack_record(x: &BoxState, to: BoxNo, b: Ballot) -> Record
+    ensures { result ≡ carried (newstate_ack (own_of x.now) to b) }
 {
     Record {
         kind: records::NEWSTATE_ACK,
@@ -167,9 +167,9 @@ pub fn newstate_ack_record(x: BoxState, to: BoxNo, b: Ballot) -> Record
 
 // 5 NEWLEADER with (ballot number + 1, own)
 #[tactic(auto, unfolding(records::specs::Rec::carried, boxes::specs::Stand::next_ballot))]
-pub fn stand_record(x: BoxState, to: BoxNo) -> Record
-    requires { x.core.ballot.number < most_number }
-    ensures { result ≡ carried (newleader (own_of x) to (next_ballot x)) }
+pub fn stand_record(x: &BoxState, to: BoxNo) -> Record
+    requires { x.now.core.ballot.number < most_number }
+    ensures { result ≡ carried (newleader (own_of x.now) to (next_ballot x.now)) }
 {
     let own = x.core.own;
     let next = Ballot {

@@ -19,8 +19,8 @@ fn row_open(row: Row) -> bool
 }
 
 #[tactic(auto, unfolding(boxes::specs::Ready::is_open))]
-pub fn is_open(x: BoxState, job: u8) -> bool
-    ensures { result ≡ is_open x job }
+pub fn is_open(x: &BoxState, job: u8) -> bool
+    ensures { result ≡ is_open x.now job }
 {
     row_open(boxes::row_at(x, job))
 }

@@ -146,7 +146,7 @@ pub fn turn(
         };
     };
     let mut tray = [0u8; house::LEAST_TRAY];
-    let out = rehearsal::step(desk.plan, *x, hear::order_of(typed), r, &mut tray);
+    let out = rehearsal::step(desk.plan, x, hear::order_of(typed), r, &mut tray);
     let f = finish(used, out.used, out.records, &tray, post, t);
     match f.used {
         Some(used) => {

@@ -9,16 +9,16 @@ use house::Plan;
 
 // the first test that fails ends it
 #[tactic(auto, unfolding(boxes::specs::Sound::sound, boxes::specs::Sound::box_sound))]
-pub fn is_sound(plan: Plan, x: BoxState) -> bool
-    ensures { result ≡ sound plan x }
+pub fn is_sound(plan: Plan, x: &BoxState) -> bool
+    ensures { result ≡ sound plan x.now }
 {
     house::plan_sound(plan)
-        && core_part::range_sound(plan, &x)
-        && core_part::ballots_sound(plan, &x)
-        && core_part::table_sound(plan, &x)
-        && core_part::sent_sound(plan, &x)
-        && volatile::kept_sound(plan, &x)
-        && volatile::marks_sound(plan, &x)
-        && core_part::list_sound(plan, &x)
-        && volatile::vote_sound(plan, &x)
+        && core_part::range_sound(plan, x)
+        && core_part::ballots_sound(plan, x)
+        && core_part::table_sound(plan, x)
+        && core_part::sent_sound(plan, x)
+        && volatile::kept_sound(plan, x)
+        && volatile::marks_sound(plan, x)
+        && core_part::list_sound(plan, x)
+        && volatile::vote_sound(plan, x)
 }

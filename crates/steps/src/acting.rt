@@ -17,18 +17,18 @@ use records::Record;
 
 // the step
 #[tactic(auto, unfolding(crate::specs::Said::says, crate::specs::Judged::judged, boxes::specs::Step::react))]
-pub fn act(plan: Plan, x: BoxState, r: Record, tray: &mut [u8]) -> Outcome
-    requires { Acting plan x r (length tray.old) × (judged plan x (meaning r) ≡ done) }
-    ensures { (result ≡ result_of plan x (react plan x (meaning r))) × (tray.new ≡ onto (encode_all plan (records_of (react plan x (meaning r)))) tray.old) }
+pub fn act(plan: Plan, x: &BoxState, r: Record, tray: &mut [u8]) -> Outcome
+    requires { Acting plan x.now r (length tray.old) × (judged plan x.now (meaning r) ≡ done) }
+    ensures { (result ≡ result_of plan x.now (react plan x.now (meaning r))) × (tray.new ≡ onto (encode_all plan (records_of (react plan x.now (meaning r)))) tray.old) }
 {
     match said::said_by(r) {
-        Said::Multicast(job) => jobs::do_multicast(plan, x, job, tray),
-        Said::Accept(job, y) => jobs::do_accept(plan, x, r.from, job, y, tray),
-        Said::AcceptAck(job, ballots) => jobs::do_accept_ack(plan, x, r.from, job, ballots, tray),
-        Said::Deliver(job, y) => jobs::do_deliver(plan, x, job, y),
-        Said::Newleader(b) => leaders::do_newleader(plan, x, r.from, b, tray),
-        Said::NewleaderAck(y) => leaders::do_newleader_ack(plan, x, r.from, y, tray),
-        Said::NewState(y) => leaders::do_new_state(plan, x, r.from, y, tray),
-        Said::NewstateAck(b) => leaders::do_newstate_ack(plan, x, b, tray),
+        Said::Multicast(job) => jobs::do_multicast(plan, *x, job, tray),
+        Said::Accept(job, y) => jobs::do_accept(plan, *x, r.from, job, y, tray),
+        Said::AcceptAck(job, ballots) => jobs::do_accept_ack(plan, *x, r.from, job, ballots, tray),
+        Said::Deliver(job, y) => jobs::do_deliver(plan, *x, job, y),
+        Said::Newleader(b) => leaders::do_newleader(plan, *x, r.from, b, tray),
+        Said::NewleaderAck(y) => leaders::do_newleader_ack(plan, *x, r.from, y, tray),
+        Said::NewState(y) => leaders::do_new_state(plan, *x, r.from, y, tray),
+        Said::NewstateAck(b) => leaders::do_newstate_ack(plan, *x, b, tray),
     }
 }

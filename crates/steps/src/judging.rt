@@ -7,6 +7,7 @@ ghost use Rattle.records.specs.Format.{most_kind};
 ghost use Rattle.records.specs.Outcome.{RecordRead};
 ghost use Rattle.records.specs.Rec.{meaning};
 ghost use Rattle.boxes.specs.Box.{own_of};
+ghost use Rattle.boxes.specs.Lengths.{Lengths};
 ghost use Rattle.boxes.specs.Sound.{sound};
 ghost use Rattle.steps.specs.Judged.{judged};
 ghost use Rattle.steps.specs.Judging.{Judging};
@@ -18,9 +19,9 @@ use records::{Answer, Record, Refusal};
 
 // the answer: the first of the tests 6 to 10 that fails
 #[tactic(auto, unfolding(crate::specs::Said::says, crate::specs::Judged::judged))]
-fn judge(plan: Plan, x: BoxState, r: Record) -> Answer
+fn judge(plan: Plan, x: &BoxState, r: Record) -> Answer
     requires { (1 ≤ r.kind) × (r.kind ≤ most_kind) }
-    ensures { result ≡ judged plan x (meaning r) }
+    ensures { result ≡ judged plan x.now (meaning r) }
 {
     match said::said_by(r) {
         Said::Multicast(job) => jobs::decide_multicast(plan, x, job),
@@ -35,9 +36,9 @@ fn judge(plan: Plan, x: BoxState, r: Record) -> Answer
 }
 
 // a record that the reader took: 5 if it is for another box
-fn judge_record(plan: Plan, x: BoxState, r: Record) -> Answer
+fn judge_record(plan: Plan, x: &BoxState, r: Record) -> Answer
     requires { (1 ≤ r.kind) × (r.kind ≤ most_kind) }
-    ensures { result ≡ or_no (eqb r.to.0 (own_of x).0) OtherBox (judged plan x (meaning r)) }
+    ensures { result ≡ or_no (eqb r.to.0 (own_of x.now).0) OtherBox (judged plan x.now (meaning r)) }
 {
     if r.to == x.core.own {
         return judge(plan, x, r);
@@ -45,20 +46,30 @@ fn judge_record(plan: Plan, x: BoxState, r: Record) -> Answer
     Err(Refusal::OtherBox)
 }
 
+// the lengths of a box's arrays, which the proof knows of a box by value alone; neither the call nor the copy made for it is in the built program
+fn has_lengths(_x: BoxState)
+    ensures { Lengths _x }
+{}
+
 // what bytes were read as, given to a sound box: the reader's answer, 5, and the kind's own tests, or the record that it will act on
-pub fn judge_read(plan: Plan, x: BoxState, read: Result<Record, Refusal>) -> Result<Record, Refusal>
-    requires { (sound plan x ≡ true) × ((s : List ℕ) × RecordRead plan s read) }
-    ensures { ((s : List ℕ) → RecordRead plan s read → Judging plan x s result) × ((r : Record) → result ≡ Ok r → read ≡ Ok r) }
+pub fn judge_read(
+    plan: Plan,
+    x: &BoxState,
+    read: Result<Record, Refusal>,
+) -> Result<Record, Refusal>
+    requires { (sound plan x.now ≡ true) × ((s : List ℕ) × RecordRead plan s read) }
+    ensures { ((s : List ℕ) → RecordRead plan s read → Judging plan x.now s result) × ((r : Record) → result ≡ Ok r → read ≡ Ok r) }
 {
     let r = read?;
     judge_record(plan, x, r)?;
+    has_lengths(*x);
     Ok(r)
 }
 
 // bytes given to a sound box: the answers 3 to 10, or the record that it will act on
-pub fn judge_bytes(plan: Plan, x: BoxState, bytes: &[u8]) -> Result<Record, Refusal>
-    requires { sound plan x ≡ true }
-    ensures { Judging plan x bytes.now result }
+pub fn judge_bytes(plan: Plan, x: &BoxState, bytes: &[u8]) -> Result<Record, Refusal>
+    requires { sound plan x.now ≡ true }
+    ensures { Judging plan x.now bytes.now result }
 {
     judge_read(plan, x, reader::read_bytes(plan, bytes))
 }

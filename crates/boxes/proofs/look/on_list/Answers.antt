@@ -9,5 +9,5 @@ pub returns : goal.returns
 unfolding on_list listed_at
 returns c =
     let a = c.args in
-    let t : ℕ → Bool = λ i. (get_or a.x.core.list i no_listed).job == a.job in
-    some_in_range t a.x.core.count c.any.ensures.ran (cc) (λ x b q k. search (rules, tests))
+    let t : ℕ → Bool = λ i. (get_or a.x.now.core.list i no_listed).job == a.job in
+    some_in_range t a.x.now.core.count c.any.ensures.ran (cc) (λ x b q k. search (rules, tests))

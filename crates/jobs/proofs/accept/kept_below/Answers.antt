@@ -12,5 +12,5 @@ pub returns : goal.returns
 unfolding kept_below is_no_ballot same_ballot
 returns c =
     let a = c.args in
-    let t : ℕ → Bool = λ d. not (names a.plan a.job (district d)) || not (is_no_ballot (kept_ballot a.x a.job (district d))) in
+    let t : ℕ → Bool = λ d. not (names a.plan a.job (district d)) || not (is_no_ballot (kept_ballot a.x.now a.job (district d))) in
     all_in_range t a.n c.all.ensures.ran (cc) (λ x b q k. search (rules, tests))

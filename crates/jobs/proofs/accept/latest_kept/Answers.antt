@@ -15,7 +15,7 @@ unfolding latest_kept larger stamp_lt pick
 returns c =
     let a = c.args in
     rw c.no_stamp.ensures at
-    (fold_passed_in_range district (names a.plan a.job) (λ s d. later_stamp s (kept_stamp a.x a.job d)) a.n c.fold.ensures.ran (cc)
+    (fold_passed_in_range district (names a.plan a.job) (λ s d. later_stamp s (kept_stamp a.x.now a.job d)) a.n c.fold.ensures.ran (cc)
     c.map.ensures.closure c.filter.ensures.closure
     (λ x y q k. search (rules, tests))
     (λ x b q k. search (rules, tests))

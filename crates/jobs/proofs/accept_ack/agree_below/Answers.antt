@@ -13,5 +13,5 @@ pub returns : goal.returns
 unfolding agree_below same_ballot
 returns c =
     let a = c.args in
-    let t : ℕ → Bool = λ d. not (names a.plan a.job (district d)) || same_ballot (get_or a.ballots d no_ballot) (kept_ballot a.x a.job (district d)) in
+    let t : ℕ → Bool = λ d. not (names a.plan a.job (district d)) || same_ballot (get_or a.ballots d no_ballot) (kept_ballot a.x.now a.job (district d)) in
     all_in_range t a.n c.all.ensures.ran (cc) (λ x b q k. search (rules, tests))

@@ -7,13 +7,13 @@ use Rattle.jobs.proofs.accept_ack.when_marked.Goals as goal
 
 pub hand_out-h-requires : goal.hand_out-h-requires
 unfolding when_marked pick
-hand_out-h-requires c = let y = c.commit-y in (c.requires.0, (y.result.volatile, search rules))
+hand_out-h-requires c = let y = c.commit.new.x in (c.requires.0, (y.volatile, search rules))
 
 pub returns-then-is_enough : goal.returns-then-is_enough
 unfolding when_marked pick
 returns-then-is_enough c =
     let a = c.args in
-    let y = c.commit-y.result in
+    let y = c.commit.new.x in
     let q = c.hand_out-h.ensures y.volatile in
-    let z : c.put_sent-z.result ≡ (hand_out a.plan y).box = c.put_sent-z.ensures ∙ q.0 in
+    let z : c.put_sent.new.x ≡ (hand_out a.plan y).box = c.put_sent.ensures ∙ q.0 in
     search rules

@@ -6,13 +6,13 @@ use Rattle.leaders.proofs.newstate_ack.do_newstate_ack.Goals as goal
 
 pub hand_out-h-requires : goal.hand_out-h-requires
 unfolding on_newstate_ack
-hand_out-h-requires c = (c.requires.0, (c.lead-y.result.volatile, search rules))
+hand_out-h-requires c = (c.requires.0, (c.lead.new.x.volatile, search rules))
 
 pub returns : goal.returns
 unfolding on_newstate_ack
 returns c =
     let a = c.args in
-    let y = c.lead-y.result in
+    let y = c.lead.new.x in
     let q = c.hand_out-h.ensures y.volatile in
-    let z : c.put_sent-z.result ≡ (hand_out a.plan y).box = c.put_sent-z.ensures ∙ q.0 in
+    let z : c.put_sent.new.x ≡ (hand_out a.plan y).box = c.put_sent.ensures ∙ q.0 in
     search rules

@@ -10,4 +10,4 @@ pub returns : goal.returns
 unfolding kept_vector
 returns c =
     let a = c.args in
-    made_from_fn (kept_for a.plan a.x a.job) no_ballot (λ x b q k. search (rules, tests)) c.from_fn.result 4 c.from_fn.ensures.items
+    made_from_fn (kept_for a.plan a.x.now a.job) no_ballot (λ x b q k. search (rules, tests)) c.from_fn.result 4 c.from_fn.ensures.items

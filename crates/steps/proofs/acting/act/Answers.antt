@@ -51,7 +51,7 @@ do_deliver-requires c =
     let e : meaning a.r ≡ deliver a.r.from a.r.to k.job k.y = search rules in
     let O = rw e at (told A) in
     let d = rw e at c.requires.1 in
-    (job_low a.plan k.job (box A).plan O.job, room_listed a.plan a.x k.job k.y (box A) d, d)
+    (job_low a.plan k.job (box A).plan O.job, room_listed a.plan a.x.now k.job k.y (box A) d, d)
 
 pub do_newleader-requires : goal.do_newleader-requires
 unfolding says judged react
@@ -86,6 +86,6 @@ unfolding says judged react
 returns-in-Deliver c =
     let a = c.args in let k = c.in-Deliver in
     let e : meaning a.r ≡ deliver a.r.from a.r.to k.job k.y = search rules in
-    let s = ap (react a.plan a.x) e in
-    let v = s ∙ deliver_is a.plan a.x k.job k.y (rw e at c.requires.1) in
-    (c.do_deliver.ensures ∙ ap (result_of a.plan a.x) (sym s), rw (v, encode_none a.plan) (sym (onto_nil a.tray.now)))
+    let s = ap (react a.plan a.x.now) e in
+    let v = s ∙ deliver_is a.plan a.x.now k.job k.y (rw e at c.requires.1) in
+    (c.do_deliver.ensures ∙ ap (result_of a.plan a.x.now) (sym s), rw (v, encode_none a.plan) (sym (onto_nil a.tray.now)))

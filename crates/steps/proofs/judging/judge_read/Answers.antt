@@ -14,7 +14,7 @@ returns-in_err-r c =
     let a = c.args in
     let got : c.args.read ≡ Err c.in_err-r.field-0.0 = search rules in
     let f : c.from_residual.result ≡ Err c.in_err-r.field-0.0 = search rules in
-    (λ s R. rw f (judging_unread a.plan a.x s c.requires.0 _ (was_unread a.plan s (sym (read_is_promised R) ∙ got))), λ r q. no_done (sym f ∙ q))
+    (λ s R. rw f (judging_unread a.plan a.x.now s c.requires.0 _ (was_unread a.plan s (sym (read_is_promised R) ∙ got))), λ r q. no_done (sym f ∙ q))
 
 pub judge_record-requires : goal.judge_record-requires
 judge_record-requires c =
@@ -32,7 +32,7 @@ returns-in_err-judge_record c =
     let f : c.from_residual-in_err-judge_record.result ≡ Err c.in_err-judge_record.field-0.0 = search rules in (
       λ s R.
           let t = was_read a.plan s (sym (read_is_promised R) ∙ got) in
-          rw f (judging_refused a.plan a.x s c.requires.0 _ c.in_ok-r.r t.0 t.1 (sym c.judge_record.ensures ∙ no)),
+          rw f (judging_refused a.plan a.x.now s c.requires.0 _ c.in_ok-r.r t.0 t.1 (sym c.judge_record.ensures ∙ no)),
       λ r q. no_done (sym f ∙ q),
     )
 
@@ -41,19 +41,10 @@ returns c =
     let a = c.args in
     let got : c.args.read ≡ Ok c.in_ok-r.r = search rules in
     let yes : c.judge_record.result ≡ done = search rules in
-    let L : Lengths a.x =
-    record {
-      table = search rules;
-      sent = search rules;
-      list = search rules;
-      kept_ballots = search rules;
-      kept_stamps = search rules;
-      marks = search rules;
-      vote_table = search rules;
-    } in (
+    let L : Lengths a.x.now = c.has_lengths.ensures in (
       λ s R.
           let t = was_read a.plan s (sym (read_is_promised R) ∙ got) in
           let v : valid a.plan c.in_ok-r.r ≡ true = rw t.1 (read_says a.plan s t.0).2 in
-          judging_taken a.plan a.x s c.requires.0 c.in_ok-r.r L t.0 t.1 v (sym c.judge_record.ensures ∙ yes),
+          judging_taken a.plan a.x.now s c.requires.0 c.in_ok-r.r L t.0 t.1 v (sym c.judge_record.ensures ∙ yes),
       λ r q. got ∙ q,
     )
