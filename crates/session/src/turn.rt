@@ -65,7 +65,9 @@ fn read_on(line: LineState, chunk: &[u8], from: usize) -> Scan
         .iter()
         .position(|&byte| byte == b'\n')
         .unwrap_or(rest.len());
-    let line = rest[..len]
+    // A line that is too long keeps no more.
+    let most = len.min(line.bytes.len());
+    let line = rest[..most]
         .iter()
         .fold(line, |held, &byte| lines::push(held, byte));
     Scan {

@@ -5,16 +5,17 @@ use Rattle.std.proofs.Common.{arith, length-take}
 use Rattle.std.proofs.Math.Seq.{take-add}
 use Rattle.std.proofs.lemmas.List.{get_or-drop, get_or-take}
 use Rattle.std.proofs.lemmas.List.Sums.{fails_before_first, passes_at_first, prefix_len-le-length}
-use Prim.Native.Nat.{ℕ, suc, ◌+◌, ◌-◌, ◌<◌, ◌≤◌}
+use Prim.Native.Nat.{ℕ, zero, suc, min, ◌+◌, ◌-◌, ◌<◌, ◌≤◌}
 use mathlib.Core.Bool.{Bool, true, false, not, cond}
 use mathlib.Core.List.{List, [], ◌∷◌, foldl-append}
 use mathlib.Core.Logic.{⊎_elim}
-use borrow.Author.Tests.{eqb-true, ltb-false}
+use borrow.Author.Tests.{eqb-true, ltb-true, ltb-false, lt-ltb}
 use mathlib.Core.Path.{◌≡◌, refl, sym, ap, ◌∙◌}
 use lib.Dec.{eqb, ltb}
 use lib.ListN.{length, get_or, take, drop, length-drop}
-use Rattle.laws.proofs.laws.Choice.{pick_true, pick_false, look}
+use Rattle.laws.proofs.laws.Choice.{pick_true, pick_false, pick_when, look}
 use Rattle.laws.proofs.laws.Fold.{over_step}
+use Rattle.lines.specs.Orders.{longest}
 use Rattle.lines.specs.Parts.{line_feed}
 use Rattle.lines.specs.Held.{no_line, pushed, order_held}
 use Rattle.lines.specs.Feed.{Reading, line_end, byte_read, all_read}
@@ -45,6 +46,29 @@ held_all q [] h = refl
 held_all q (b ∷ bytes) h =
     ap (λ (z : Reading World). all_read act z bytes) (byte_held q b (h 0 (omega arith)))
     ∙ held_all (record { line = pushed q.line b; state = q.state }) bytes (λ k l. h (suc k) (omega arith))
+
+-- a line of more than 31 bytes keeps no more
+full_stays : (s : LineState) (l : List ℕ) → longest < s.len → fold pushed s l ≡ s
+unfolding pushed
+full_stays s [] h = refl
+full_stays s (b ∷ l) h = ap (λ (z : LineState). fold pushed z l) (pick_true _ _ (lt-ltb longest s.len h)) ∙ full_stays s l h
+
+fills : (s : LineState) (b n : ℕ) → longest < suc n + s.len → longest < n + (pushed s b).len
+unfolding pushed
+fills s b n h = pick_when (λ (z : LineState). longest < n + z.len) (ltb longest s.len) (λ e. omega (arith, ltb-true longest s.len e)) (λ e. omega arith)
+
+front_held : (s : LineState) (l : List ℕ) (n : ℕ) → longest < n + s.len → fold pushed s (take n l) ≡ fold pushed s l
+front_held s l zero h = sym (full_stays s l (omega (arith, h)))
+front_held s [] (suc n) h = refl
+front_held s (b ∷ l) (suc n) h = front_held (pushed s b) l n (fills s b n h)
+
+-- so the first bytes that fit are all that is held of some
+pub most_held : (s : LineState) (l : List ℕ) (len most : ℕ) → most ≡ min len 32 → fold pushed s (take most l) ≡ fold pushed s (take len l)
+most_held s l len most e =
+    ⊎_elim
+    (λ h. let k = ltb-true len 32 h in let m : most ≡ len = omega (arith, e) in rw m)
+    (λ h. let k = ltb-false len 32 h in front_held s l most (omega (arith, e)) ∙ sym (front_held s l len (omega arith)))
+    (look (ltb len 32))
 
 -- the first place that passes, or the end
 pub first_or_end : {A : Type 0} (t : A → Bool) (l : List A) {r : Option ℕ} → r ≡ cond (ltb (position_or_len t l) (length l)) (Some (position_or_len t l)) None
