@@ -65,7 +65,7 @@ fn read_on(line: LineState, chunk: &[u8], from: usize) -> Scan
         .iter()
         .position(|&byte| byte == b'\n')
         .unwrap_or(rest.len());
-    // A line that is too long keeps no more.
+    // No more of a line is kept than it has bytes, so what comes behind them is not pushed.
     let most = len.min(line.bytes.len());
     let line = rest[..most]
         .iter()
