@@ -46,7 +46,7 @@ fn judge_record(plan: Plan, x: &BoxState, r: Record) -> Answer
     Err(Refusal::OtherBox)
 }
 
-// the lengths of a box's arrays, which the proof knows of a box by value alone; neither the call nor the copy made for it is in the built program
+// the lengths of a box's arrays, which the proof knows of a box by value alone; nothing is done, and LLVM leaves out the call and its copy of the box
 fn has_lengths(_x: BoxState)
     ensures { Lengths _x }
 {}
