@@ -96,7 +96,14 @@ sure_heard {desk} {boxes} {used} {post} {known} {index} {later} {o} r d k {x} l 
         let f = S.box i t in
         rw (stays f.0) f
 
--- a box has stepped, and bytes came behind what is used
+-- bytes came behind what is used
+pub sure_grown : {desk : Desk} {boxes : List BoxState} {used : ℕ} {post : List ℕ} {known : List Bool} {index : Index} (u : ℕ) (after : List ℕ)
+    → used ≤ u → take used after ≡ take used post → Sure desk boxes used post known index → Sure desk boxes u after known index
+unfolding box_in
+sure_grown {desk} {boxes} {used} {post} {known} {index} u after m g S =
+    record { indexed = indexed_grown desk.plan post after used u m g index.places.now index.last S.indexed; loose = S.loose; box = S.box }
+
+-- and a box has stepped
 pub sure_stepped : {desk : Desk} {boxes : List BoxState} {used : ℕ} {post : List ℕ} {known : List Bool} {index : Index} (at : ℕ) (y : BoxState)
     (u : ℕ) (after : List ℕ)
     → at < length boxes
@@ -106,11 +113,12 @@ pub sure_stepped : {desk : Desk} {boxes : List BoxState} {used : ℕ} {post : Li
     → Sure desk boxes used post known index → Sure desk (set boxes at y) u after known index
 unfolding box_in
 sure_stepped {desk} {boxes} {used} {post} {known} {index} at y u after l f m g S =
+    let G = sure_grown u after m g S in
     record {
-      indexed = indexed_grown desk.plan post after used u m g index.places.now index.last S.indexed;
-      loose = S.loose;
+      indexed = G.indexed;
+      loose = G.loose;
       box = λ i q.
-          let b = S.box i q in
+          let b = G.box i q in
           let here : (j : ℕ) → sound desk.plan (get_or boxes j (fresh (box_no 0))) ≡ true → j ≡ at → sound desk.plan y ≡ true =
           λ j k e. f (ap (λ (m : ℕ). sound desk.plan (get_or boxes m (fresh (box_no 0)))) (sym e) ∙ k) in (
             b.0,

@@ -38,7 +38,7 @@ use Rattle.session.specs.Turned.{Finishes, Turns}
 -- ---- laws
 
 -- a box that did not change, put back in its place
-as_it_was : (n : Night) (at : ℕ) {x : BoxState} → box_in n at ≡ x → n.boxes ≡ set n.boxes at x
+pub as_it_was : (n : Night) (at : ℕ) {x : BoxState} → box_in n at ≡ x → n.boxes ≡ set n.boxes at x
 unfolding box_in
 as_it_was n at e = sym (ap (set n.boxes at) (sym e) ∙ set-get_or n.boxes at (fresh (box_no 0)))
 
